@@ -12,8 +12,8 @@ from shutil import which
 
 from inputs import worked_circuits
 from library import (
-    ARCHIVE, INCLUDE, LIB_DIR, LIBRARY, SONAME, build, compiler, demand_library, environment_of_python, sanitizers,
-    shared_library, tool,
+    ARCHIVE, INCLUDE, LIB_DIR, LIBRARY, SONAME, WARNINGS, build, compiler, demand_library, environment_of_python,
+    sanitizers, shared_library, tool,
 )
 from program import EXAMPLES, TOP, sealed
 
@@ -142,6 +142,23 @@ class FromC(LibraryTest):
 
     def test_a_million_gates(self):
         self.run_built(SOURCES / "million.c")
+
+    def test_examples_by_each_compiler(self):
+        """None of them has a warning, with optimization or without."""
+        for source in sorted(EXAMPLES.glob("c/*.c")):
+            for command in filter(which, ("gcc", "clang")):
+                for level in ("-O0", "-O2"):
+                    words = [command, "-std=c11", *WARNINGS, level, f"-I{INCLUDE}", "-c", source, "-o", os.devnull]
+                    said = subprocess.run(words, capture_output=True, text=True, check=False).stderr
+                    self.assertEqual(said, "", (source.name, command, level))
+
+    def test_files_that_the_examples_cannot_read(self):
+        for name, words in (("two_parties", "7 9"), ("sha256_chain", "abc")):
+            program = self.folder / name
+            build(EXAMPLES / f"c/{name}.c", program)
+            for place, said in ((self.folder, "Is a directory"), (self.folder / "none", "No such file or directory")):
+                done = subprocess.run([program, place, *words.split()], capture_output=True, text=True, check=False)
+                self.assertEqual((done.returncode, done.stdout, done.stderr), (1, "", f"{name}: {said}\n"))
 
     def test_two_parties(self):
         example = EXAMPLES / "c/two_parties.c"

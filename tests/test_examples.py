@@ -5,13 +5,15 @@ import unittest
 from hashlib import sha256
 from pathlib import Path
 
-from library import environment_of_python, import_package
+from library import build, environment_of_python, import_package
 from program import EXAMPLES
 from test_c_library import LibraryTest
 
-import_package()
+halfgates = import_package()
 sys.path.append(str(EXAMPLES / "python"))
 import oblivious_transfer
+import sha256_chain
+import two_processes
 from oblivious_transfer import LABEL, SIZE, Receiver, Sender
 
 PYTHON = EXAMPLES / "python"
@@ -21,6 +23,42 @@ MESSAGES = ["", "abc", "x" * 55, "x" * 56, "x" * 64, "more than two blocks " * 8
 
 # An AND for the garbler, and an XOR and the evaluator's own bit for the evaluator.
 TWO_OUTPUTS = "3 5\n2 1 1\n2 1 2\n\n2 1 0 1 2 AND\n2 1 0 1 3 XOR\n1 1 1 4 EQW\n"
+
+
+# Says of the second block whether it has labels of the first one.
+WATCH = """
+#include <halfgates.h>
+#include <stdio.h>
+#include <string.h>
+int32_t __real_halfgates_garble_from(const halfgates_circuit *, const uint8_t *, const uint8_t *, size_t, uint64_t,
+                                     halfgates_garbling **);
+int32_t __wrap_halfgates_garble_from(const halfgates_circuit *circuit, const uint8_t *offset, const uint8_t *zeros,
+                                     size_t size, uint64_t first, halfgates_garbling **garbling);
+int32_t __wrap_halfgates_garble_from(const halfgates_circuit *circuit, const uint8_t *offset, const uint8_t *zeros,
+                                     size_t size, uint64_t first, halfgates_garbling **garbling) {
+    static uint8_t before[512 * 16];
+    int same = 0;
+    for (size_t at = 0; at < sizeof before; at += 16) {
+        uint8_t difference[16];
+        for (size_t i = 0; i < 16; i++)
+            difference[i] = before[at + i] ^ zeros[at + i];
+        same += memcmp(difference, offset, 16) == 0 || memcmp(before + at, zeros + at, 16) == 0;
+    }
+    if (first > 0)
+        fputs(same ? "labels again\\n" : "fresh labels\\n", stderr);
+    memcpy(before, zeros, sizeof before);
+    return __real_halfgates_garble_from(circuit, offset, zeros, size, first, garbling);
+}
+"""
+
+
+def pieces(data):
+    """The labels that follow one another."""
+    return [bytes(data[at : at + LABEL]) for at in range(0, len(data), LABEL)]
+
+
+def halves(data):
+    return data[: len(data) // 2], data[len(data) // 2 :]
 
 
 class ExampleTest(LibraryTest):
@@ -51,6 +89,21 @@ class Chains(ExampleTest):
         for message, digest in self.digests()[1:4]:
             printed = self.run_built(EXAMPLES / "c/sha256_chain.c", self.circuit, message)
             self.assertEqual(printed, f"{digest}\n", message)
+
+    def test_labels_of_the_next_block(self):
+        """No label of a block, nor its partner under the offset, is a label of the block before."""
+        garbler = sha256_chain.Garbler(halfgates.Circuit.open(self.circuit))
+        (_, first, *_), (_, second, *_) = garbler.messages(64 * b"x")
+        for one, other in zip(pieces(first), pieces(second)):
+            difference = bytes(a ^ b for a, b in zip(one, other))
+            self.assertNotIn(difference, (bytes(LABEL), garbler.offset))
+
+    def test_labels_of_the_next_block_in_c(self):
+        watch, program = self.folder / "watch.c", self.folder / "chain"
+        watch.write_text(WATCH)
+        build(EXAMPLES / "c/sha256_chain.c", program, "-Wl,--wrap=halfgates_garble_from", watch)
+        done = subprocess.run([program, self.circuit, 64 * "x"], capture_output=True, text=True, check=False)
+        self.assertEqual((done.returncode, done.stderr), (0, "fresh labels\n"))
 
     def test_another_circuit(self):
         ending = self.ending(self.start("sha256_chain.py", EXAMPLES / "less8.txt", "abc"))
@@ -104,11 +157,26 @@ class Transfers(unittest.TestCase):
             place = slice(LABEL * index, LABEL * (index + 1))
             self.assertEqual(labels[place], self.pairs[bit][place])
         receiver.bits = [1 - bit for bit in bits]
-        for index, label in enumerate(self.pieces(receiver.open(hidden))):
+        for index, label in enumerate(pieces(receiver.open(hidden))):
             self.assertNotIn(label, [it[LABEL * index : LABEL * (index + 1)] for it in self.pairs])
 
-    def pieces(self, data):
-        return [data[at : at + LABEL] for at in range(0, len(data), LABEL)]
+    def test_replies_that_are_equal(self):
+        """What hides a pair depends on its place too."""
+        sender = Sender()
+        reply = Receiver(sender.message, [1]).replies
+        first, second = halves(sender.hide(2 * reply, [bytes(2 * LABEL)] * 2))
+        self.assertNotEqual(first, second)
+
+    def test_the_exponents(self):
+        """RFC 3526, section 8, asks for 220 to 320 bits in this group."""
+        self.assertGreaterEqual(oblivious_transfer.EXPONENT, 220)
+
+    def test_labels_that_are_none(self):
+        pairs = [bytes(range(32)), bytes(range(100, 132))]
+        (zero, _), (_, one) = map(halves, pairs)
+        self.assertEqual(two_processes.bits_of_labels(pairs, zero + one), [0, 1])
+        for labels in (b"", zero, pairs[0] + one, zero + bytes(LABEL), zero + one[:-1], one + zero):
+            self.assertRaises(ValueError, two_processes.bits_of_labels, pairs, labels)
 
     def test_no_labels(self):
         sender = Sender()

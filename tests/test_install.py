@@ -148,15 +148,17 @@ class InstallTest(unittest.TestCase):
     def test_a_package(self):
         """DESTDIR is where the files are put, and PREFIX where they will be."""
         environment = {**os.environ, "DESTDIR": str(self.folder / "stage")}
-        self.install("/nowhere/usr/", env=environment)
-        staged, self.prefix = self.folder / "stage/nowhere/usr", self.folder / "same"
+        place = self.folder / "place"
+        self.install(f"{place}/", env=environment)
+        self.assertFalse(place.exists())
+        staged, self.prefix = Path(f"{self.folder}/stage{place}"), self.folder / "same"
         self.install()
         packed = {str(it.relative_to(staged)) for it in staged.rglob("*") if it.is_file()}
         self.assertEqual(packed, {*self.files()})
-        self.assertIn("prefix=/nowhere/usr\n", (staged / "lib/pkgconfig/halfgates.pc").read_text())
+        self.assertIn(f"prefix={place}\n", (staged / "lib/pkgconfig/halfgates.pc").read_text())
         ending = run(self.top / "install", "usr", env=environment)
         self.assertEqual(ending, (1, "", "install: where DESTDIR is set, PREFIX begins with a slash\n"))
-        self.assertEqual(run(self.top / "install", "--uninstall", "/nowhere/usr", env=environment), (0, "", ""))
+        self.assertEqual(run(self.top / "install", "--uninstall", place, env=environment), (0, "", ""))
         self.assertEqual([it for it in staged.rglob("*") if not it.is_dir()], [])
 
     def test_uninstall(self):

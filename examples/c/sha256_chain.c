@@ -74,20 +74,34 @@ static void write_bits(const uint8_t *bytes, size_t count, uint8_t *bits) {
         bits[i] = bytes[i / 8] >> i % 8 & 1;
 }
 
+/* The bytes of a file, which the caller frees. */
+static uint8_t *read_file(const char *name, size_t *size) {
+    FILE *file = fopen(name, "rb");
+    uint8_t *data = NULL;
+    size_t room = 0, got = 1;
+    if (file == NULL)
+        stop(strerror(errno));
+    for (*size = 0; got > 0; *size += got) {
+        if (*size == room) {
+            room = 2 * room + 4096;
+            data = realloc(data, room);
+            if (data == NULL)
+                stop("no memory");
+        }
+        got = fread(data + *size, 1, room - *size, file);
+    }
+    if (ferror(file))
+        stop(strerror(errno));
+    fclose(file);
+    return data;
+}
+
 static halfgates_circuit *read_circuit(const char *name) {
     halfgates_circuit *circuit = NULL;
     halfgates_numbers numbers;
-    FILE *file = fopen(name, "rb");
-    uint8_t *text;
-    long size;
-    if (file == NULL || fseek(file, 0, SEEK_END) != 0 || (size = ftell(file)) < 0)
-        stop(strerror(errno));
-    rewind(file);
-    text = take((size_t)size);
-    if (fread(text, 1, (size_t)size, file) != (size_t)size)
-        stop("the circuit can't be read");
-    fclose(file);
-    check(halfgates_circuit_read(text, (size_t)size, &circuit));
+    size_t size;
+    uint8_t *text = read_file(name, &size);
+    check(halfgates_circuit_read(text, size, &circuit));
     free(text);
     check(halfgates_circuit_numbers(circuit, &numbers));
     if (numbers.input_values != 2 || numbers.input_wires != BLOCK + STATE || numbers.output_wires != STATE)

@@ -53,6 +53,8 @@ static uint8_t *read_file(const char *name, size_t *size) {
         }
         got = fread(data + *size, 1, room - *size, file);
     }
+    if (ferror(file))
+        stop(strerror(errno));
     fclose(file);
     return data;
 }
