@@ -134,14 +134,6 @@ class Netlist:
         return self.wires[bit]
 
 
-def read_modules(path):
-    """The modules of a netlist, by their names."""
-    try:
-        return json.loads(path.read_text())["modules"]
-    except (KeyError, TypeError, ValueError):
-        raise Unclear("this is no netlist of Yosys") from None
-
-
 def is_top(module):
     return int(module.get("attributes", {}).get("top", "0"), 2) == 1
 
@@ -156,6 +148,15 @@ def choose(modules, name):
     return found[0]
 
 
+def read_netlist(path, name):
+    """The module of this name in a file, or the one that `choose` finds, and its circuit."""
+    try:
+        netlist = Netlist(choose(json.loads(path.read_text())["modules"], name))
+        return netlist, netlist.convert()
+    except (AttributeError, LookupError, RecursionError, TypeError, ValueError):  # a part is missing, or of another type
+        raise Unclear("this is no netlist of Yosys") from None
+
+
 def main():
     parser = ArgumentParser(description=__doc__, formatter_class=RawDescriptionHelpFormatter)
     parser.add_argument("netlist", type=Path, metavar="NETLIST")
@@ -163,8 +164,7 @@ def main():
     parser.add_argument("--module", metavar="NAME")
     words = parser.parse_args()
     try:
-        netlist = Netlist(choose(read_modules(words.netlist), words.module))
-        circuit = netlist.convert()
+        netlist, circuit = read_netlist(words.netlist, words.module)
         with words.circuit.open("w") as file:
             circuit.write(file)
     except Unclear as unclear:

@@ -10,6 +10,8 @@ import unittest
 from program import SEED, TOP, ProgramTest, text_of_lines
 from test_blocks import blocks
 
+from netlist import Unclear, read_netlist
+
 AUCTION = TOP / "examples/verilog/auction"
 
 # What each gate of Yosys computes.
@@ -90,6 +92,33 @@ UNCLEAR = {
     ),
     "both ways": (module({"a": port("inout", 2)}), "port a is neither an input nor an output"),
 }
+
+
+NONE = "this is no netlist of Yosys"
+
+
+def variants(whole):
+    """The texts of a value in which one part is missing, or another one stands for it."""
+
+    def change(value, path, change_of):
+        if not path:
+            return change_of(value)
+        copy = value.copy()
+        copy[path[0]] = change(value[path[0]], path[1:], change_of)
+        return copy
+
+    def paths(value, at=()):
+        yield at
+        if isinstance(value, (dict, list)):
+            for key in value if isinstance(value, dict) else range(len(value)):
+                yield from paths(value[key], (*at, key))
+
+    for path in paths(whole):
+        for other in (None, True, -1, 1.5, "x", "0", [], ["1"], [[]], {}, {"x": 1}):
+            yield json.dumps(change(whole, path, lambda _: other))
+        if path:
+            rest = lambda it: {k: v for k, v in it.items() if k != path[-1]} if isinstance(it, dict) else it[:-1]
+            yield json.dumps(change(whole, path[:-1], rest))
 
 
 def auction(first, second, reserve=20):
@@ -207,9 +236,23 @@ class Netlists(NetlistTest):
         self.assertFalse((self.folder / "bad.txt").exists())
 
     def test_files_that_are_no_netlist(self):
-        for text in ("", "{}", "[]", "1 2"):
+        for text in ("", "{}", "[]", "1 2", b"\xff", '{"modules": []}', '{"modules": {"m": 1}}', 100_000 * "["):
             self.put("bad.json", text)
-            self.assert_unclear("this is no netlist of Yosys", "bad.json", "bad.txt")
+            self.assert_unclear(NONE, "bad.json", "bad.txt")
+
+    def test_parts_that_are_missing_or_of_another_type(self):
+        """Whatever a part of a netlist is replaced by, it is a circuit, or it is said why not."""
+        ports = {"a": port("input", 2, 3), "y": port("output", 4)}
+        whole = module(ports, cell("$_AND_", 2, 3, 4), netnames={"y": {"bits": [4]}}, attributes={"top": "1"})
+        said = set()
+        for text in variants({"modules": {"m": whole}}):
+            path = self.folder / self.put("bad.json", text)
+            try:
+                read_netlist(path, None)
+            except Unclear as unclear:
+                said.add(str(unclear))
+        self.assertIn(NONE, said)
+        self.assertGreater(len(said), 8)
 
     def test_which_module(self):
         one, two = not_of(2, 3), module({"a": port("input", 2), "y": port("output", 2)})
