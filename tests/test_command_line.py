@@ -199,6 +199,14 @@ class CommandLine(ProgramTest):
             self.assertIn(f"Usage: halfgates {name} {usage}\n", text)
             self.assertEqual(terms, [term for term in help_terms(text) if "--help" not in term])
 
+    def test_the_manual_has_each_status(self):
+        page = (TOP / "dist/halfgates.1").read_text().partition(".SH EXIT STATUS\n")[2]
+        said = dict(re.findall(r"^\.TP\n\.B (\d+)\n(.*)$", page, re.M))
+        words = {"0": "succeeded", "1": "fault", "2": "command line", "3": "audit"}
+        self.assertEqual({*said}, {*words})
+        for status, word in words.items():
+            self.assertIn(word, said[status])
+
     def test_words_that_are_no_order(self):
         for words, errors in NO_ORDERS:
             self.assertEqual(self.run_program(*words), (2, "", errors))
