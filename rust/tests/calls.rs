@@ -196,6 +196,21 @@ fn both_labels_of_a_value() {
 }
 
 #[test]
+fn labels_of_all_wires() {
+    let garbling = garbling();
+    let offset = garbling.offset().unwrap();
+    let labels = garbling.labels(&BITS, 0..8).unwrap();
+    let bits: Vec<bool> = labels.iter().map(|it| it.bit).collect();
+    assert_eq!(bits, [true, false, true, false, true, false, false, true]);
+    for (wire, it) in labels.iter().enumerate() {
+        assert_eq!(it.zero, garbling.zero_label(wire).unwrap());
+        assert_eq!(garbling.labels(&BITS, wire..wire + 1), Ok(vec![*it]));
+        let has_offset = (0..16).all(|i| it.active[i] ^ it.zero[i] == offset[i]);
+        assert_eq!((it.active == it.zero, has_offset), (!it.bit, it.bit));
+    }
+}
+
+#[test]
 fn numbers_that_nothing_has() {
     let (circuit, garbling) = (adder(), garbling());
     for number in [8, 1 << 32, usize::MAX] {
@@ -216,6 +231,9 @@ fn numbers_that_nothing_has() {
         );
     }
     assert_eq!(garbling.labels(&BITS, 8..8), Ok(Vec::new()));
+    #[allow(clippy::reversed_empty_ranges)]
+    let reversed = garbling.labels(&BITS, 5..3);
+    assert_eq!(reversed, Err(Fault::BAD_ARGUMENT));
     assert_eq!(garbling.labels(&[true], 0..8), Err(Fault::WRONG_LENGTH));
     assert_eq!(circuit.deal(&SEED, 0, &[]), Err(Fault::WRONG_LENGTH));
     assert_eq!(garbling.deal(0, &BITS), Err(Fault::WRONG_LENGTH));
@@ -433,6 +451,15 @@ fn audits_of_each_part() {
     };
     assert_eq!(half_gates(48), (true, false));
     assert_eq!(half_gates(64), (false, true));
+    let digest = forged(8, 1);
+    assert_eq!(
+        (digest.is_honest, digest.has_digest, digest.has_counts),
+        (false, false, true)
+    );
+    assert_eq!(
+        (digest.row, digest.decode_bit, digest.entry),
+        (None, None, None)
+    );
     let outputs = forged(80, 2);
     assert_eq!(
         (outputs.row, outputs.decode_bit, outputs.entry),
