@@ -101,6 +101,14 @@ void check_sizes() {
     CHECK(garbling.rows().size() == 32 && garbling.decode_bits().size() == 2);
     CHECK(garbling.input_labels(2).one[0] == active[2] && garbling.output_labels(0).zero.size() == 2);
     CHECK(job.output_labels().size() == 2 && job.evaluate() == bytes({1, 1}));
+    CHECK(garbling.garbled_size() == 177 && garbling.garbled_size(1) == 113);
+    std::vector<halfgates::garbling> one;
+    one.push_back(halfgates::circuit(TEXT).garble(seed_of(1)));
+    CHECK(halfgates::write_many(one)[0] == garbling.write(2));
+
+    const halfgates::circuit empty(std::string("0 1\n1 1\n1 0\n"));
+    CHECK(empty.evaluate_labels({}, halfgates::labels(1), 0).empty());
+    CHECK(empty.garble(seed_of(1)).output_labels(0).zero.empty());
 }
 
 /* What a call reads may be a list, a temporary, a view, or a pointer and a size. */
@@ -141,7 +149,9 @@ void check_faults() {
     }
     throws(60, "fault 60 BadArgument", [&] { (void)garbling.labels({1, 0, 1}, 9, 0); });
     CHECK(garbling.labels({1, 0, 1}, 8, 0).empty());
-    CHECK(halfgates::fault(HALFGATES_MEMORY).is_memory());
+    throws(60, "fault 60 BadArgument", [&] { (void)garbling.labels({1, 0, 1}, 5, SIZE_MAX); });
+    for (std::int32_t code = 0; code < 100; code++)
+        CHECK(halfgates::fault(code).is_memory() == (halfgates_is_memory(code) != 0));
 }
 
 void check_moves() {
