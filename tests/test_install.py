@@ -14,7 +14,7 @@ from pathlib import Path
 from shutil import which
 
 from library import INCLUDE, LIB_DIR, SONAME, compiler, tool
-from program import EXAMPLES, TOP
+from program import EXAMPLES, PROGRAM, TOP
 
 RELEASE = LIB_DIR.parent
 IS_RELEASE = (RELEASE / "SHA256SUMS").is_file()
@@ -325,20 +325,21 @@ class ForLinkers(unittest.TestCase):
         folder = tempfile.TemporaryDirectory()
         self.addCleanup(folder.cleanup)
         self.folder = Path(folder.name).resolve()
-        self.build = {"__name__": "build", "__file__": str(TOP / "build")}
-        exec(compile((TOP / "build").read_text(), TOP / "build", "exec"), self.build)
+        (self.folder / "halfgates").symlink_to(PROGRAM)
 
     def write(self, version=None):
-        """Writes these files, as those of a version, and returns the folders."""
-        self.build["version"] = lambda of=self.build["version"]: version or of()
-        for at in ("lib", "lib/aarch64"):
-            self.build["write_for_linkers"](str(self.folder), at)
+        """Writes the texts of a release, as one of this version, and returns the folders of libraries."""
+        build = {"__name__": "build", "__file__": str(TOP / "build")}
+        exec(compile((TOP / "build").read_text(), TOP / "build", "exec"), build)
+        build["sum_of_sources"] = lambda *_: ""
+        if version:
+            build["version"] = lambda: version
+        build["write_texts"](str(self.folder))
         return [self.folder / at for at in ("lib", "lib/aarch64")]
 
     def use(self):
-        """Writes them beside the headers and libraries, and returns the folders."""
+        """Writes them, puts libraries beside them, and returns the folders."""
         folders = self.write()
-        shutil.copytree(INCLUDE, self.folder / "include")
         for folder in folders:
             for name in (SONAME, "libhalfgates.a"):
                 shutil.copy(LIB_DIR / name, folder)
