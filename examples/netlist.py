@@ -153,7 +153,8 @@ def read_netlist(path, name):
     try:
         netlist = Netlist(choose(json.loads(path.read_text())["modules"], name))
         return netlist, netlist.convert()
-    except (AttributeError, LookupError, RecursionError, TypeError, ValueError):  # a part is missing, or of another type
+    except (AttributeError, LookupError, RecursionError, TypeError, ValueError):
+        # A part is missing, or of another type.
         raise Unclear("this is no netlist of Yosys") from None
 
 

@@ -367,10 +367,13 @@ class ForLinkers(unittest.TestCase):
     @unittest.skipUnless(which("cmake"), "there is no cmake")
     def test_versions_for_cmake(self):
         """A release serves for earlier ones of its soname, and for no range that ends before it."""
-        for version, found, others in (
-            ("0.9.5", "0 0.6 0.9 0.9.5 0.6...0.9.5 0.6...<0.9.6 0.6...2", "0.9.6 0.10 1 1.0 99 0.6...0.9.4 0.6...<0.9.5"),
-            ("1.2.0", "1 1.0 1.2 1.0...<2 1...1.2.0", "0.6 0.9.5 0 1.3 2 0.9...2 1...<1.2"),
-        ):
+        for version, (found, others) in {
+            "0.9.5": (
+                "0 0.6 0.9 0.9.5 0.6...0.9.5 0.6...<0.9.6 0.6...2",
+                "0.9.6 0.10 1 1.0 99 0.6...0.9.4 0.6...<0.9.5",
+            ),
+            "1.2.0": ("1 1.0 1.2 1.0...<2 1...1.2.0", "0.6 0.9.5 0 1.3 2 0.9...2 1...<1.2"),
+        }.items():
             self.write(version)
             (self.folder / "CMakeLists.txt").write_text(CMAKE_VERSIONS.format(f"{found} {others}"))
             words = f"-DCMAKE_PREFIX_PATH={self.folder}", "-S", self.folder, "-B", self.folder / version

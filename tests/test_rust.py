@@ -86,7 +86,8 @@ class Cargo(unittest.TestCase):
 
     def run_example(self, target="target", **how):
         """Runs the example, and returns the shared libraries that it needs."""
-        words, how = ("--quiet", "--example", "two_parties", LESS), {"CARGO_TARGET_DIR": str(self.folder / target), **how}
+        words = "--quiet", "--example", "two_parties", LESS
+        how["CARGO_TARGET_DIR"] = str(self.folder / target)
         self.assertEqual(self.cargo("run", *words, "7", "9", **how), "1\n")
         self.assertEqual(self.cargo("run", *words, "9", "7", **how), "0\n")
         said = subprocess.run(

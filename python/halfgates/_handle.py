@@ -4,7 +4,7 @@
 from __future__ import annotations
 
 from ctypes import c_void_p
-from typing import Any, Callable, ClassVar, NamedTuple, NoReturn, Optional, Tuple, Type, TypeVar
+from typing import Any, Callable, ClassVar, NamedTuple, NoReturn, Tuple, Type, TypeVar
 
 from ._buffers import method_of
 
@@ -46,7 +46,7 @@ class Handle:
     """
 
     _Owner: ClassVar[Type[c_void_p]]
-    _at: Optional[c_void_p]
+    _at: Any  # the handle's owner, or None once it is closed
     _shape: Shape
 
     def __init__(self, *_: object) -> None:

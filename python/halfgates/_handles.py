@@ -7,7 +7,7 @@ from itertools import accumulate
 from operator import index as integer
 from os import PathLike
 from pathlib import Path
-from typing import Iterable, Iterator, List, Optional, Sequence, Tuple, Type, Union
+from typing import Callable, Iterable, Iterator, List, Optional, Sequence, Tuple, Type, Union
 
 from . import _library
 from ._bits import Bits, Buffer
@@ -73,7 +73,7 @@ class Circuit(Handle):
         outputs = self._widths(library.halfgates_circuit_output_widths, numbers.output_values)
         self._describe(Shape(numbers.gates, numbers.and_gates, numbers.wires, inputs, outputs), bytes(digest))
 
-    def _widths(self, function, count: int) -> Tuple[int, ...]:
+    def _widths(self, function: Callable[..., int], count: int) -> Tuple[int, ...]:
         widths = (c_uint32 * count)()
         check(function(self._at, widths, count))
         return tuple(widths)
@@ -243,7 +243,7 @@ class Garbling(Handle):
         """The zero labels and the one labels of the wires of an output value. Fault 42: there is no such value."""
         return self._pairs(library.halfgates_output_labels, self._shape.output_widths, _u32(index))
 
-    def _pairs(self, function, widths: Tuple[int, ...], index: int) -> Tuple[bytes, bytes]:
+    def _pairs(self, function: Callable[..., int], widths: Tuple[int, ...], index: int) -> Tuple[bytes, bytes]:
         size = LABEL * widths[index] if index < len(widths) else 0
         zero, one = (c_uint8 * size)(), (c_uint8 * size)()
         check(self._call(function, index, byref(zero), byref(one), size))

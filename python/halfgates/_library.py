@@ -3,6 +3,7 @@
 
 import ctypes
 from ctypes import POINTER, c_char, c_int32, c_size_t, c_uint8, c_uint32, c_uint64, c_void_p
+from typing import Any, Dict, Tuple
 
 from ._path import library_path
 
@@ -57,7 +58,7 @@ class LabelsReport(ctypes.Structure):
 _BYTES, _HANDLE, _SIZE = c_void_p, c_void_p, POINTER(c_size_t)
 
 # By function what it returns, and what it takes.
-_FUNCTIONS = {
+_FUNCTIONS: Dict[str, Tuple[Any, ...]] = {
     "fault_name": (Name, c_int32),
     "version": (Name,),
     "is_memory": (c_int32, c_int32),
