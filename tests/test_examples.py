@@ -3,7 +3,6 @@ import subprocess
 import sys
 import unittest
 from hashlib import sha256
-from pathlib import Path
 
 from library import build, environment_of_python, import_package
 from program import EXAMPLES

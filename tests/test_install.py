@@ -91,12 +91,12 @@ class InstallTest(unittest.TestCase):
         """It replaces what stands there, also while it is used."""
         self.install()
         before = self.files()
-        os.mkfifo(self.folder / "fifo")
-        words = [self.prefix / "bin/halfgates", "check", self.folder / "fifo"]
-        with subprocess.Popen(words, stdout=subprocess.DEVNULL, stderr=subprocess.DEVNULL):
-            writer = os.open(self.folder / "fifo", os.O_WRONLY)
+        words, pipe = [self.prefix / "bin/halfgates", "check", "/dev/stdin"], subprocess.PIPE
+        with subprocess.Popen(words, stdin=pipe, stdout=pipe, stderr=pipe) as running:
             self.install()
-            os.close(writer)
+            self.assertIsNone(running.poll())
+            _, errors = running.communicate((EXAMPLES / "full_adder.txt").read_bytes(), timeout=60)
+            self.assertEqual((running.returncode, errors), (0, b""))
         self.assertEqual(self.files(), before)
 
     def test_each_file_is_there_meanwhile(self):

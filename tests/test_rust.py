@@ -84,14 +84,13 @@ class Cargo(unittest.TestCase):
         self.assertEqual(done.returncode, 0, f"{done.stdout}\n{done.stderr}")
         return done.stdout
 
-    def run_example(self, target="target", **how):
+    def run_example(self, **how):
         """Runs the example, and returns the shared libraries that it needs."""
         words = "--quiet", "--example", "two_parties", LESS
-        how["CARGO_TARGET_DIR"] = str(self.folder / target)
         self.assertEqual(self.cargo("run", *words, "7", "9", **how), "1\n")
         self.assertEqual(self.cargo("run", *words, "9", "7", **how), "0\n")
         said = subprocess.run(
-            [tool("readelf"), "-d", self.folder / target / "debug/examples/two_parties"],
+            [tool("readelf"), "-d", self.folder / "target/debug/examples/two_parties"],
             capture_output=True, text=True, check=True,
         ).stdout
         return re.findall(r"Shared library: \[(.*)\]", said)
