@@ -98,10 +98,12 @@ class Chains(ExampleTest):
             self.assertNotIn(difference, (bytes(LABEL), garbler.offset))
 
     def test_labels_of_the_next_block_in_c(self):
+        """The circuit comes by a pipe."""
         watch, program = self.folder / "watch.c", self.folder / "chain"
         watch.write_text(WATCH)
         build(EXAMPLES / "c/sha256_chain.c", program, "-Wl,--wrap=halfgates_garble_from", watch)
-        done = subprocess.run([program, self.circuit, 64 * "x"], capture_output=True, text=True, check=False)
+        how = {"input": self.circuit.read_text(), "capture_output": True, "text": True, "check": False}
+        done = subprocess.run([program, "/dev/stdin", 64 * "x"], **how)
         self.assertEqual((done.returncode, done.stderr), (0, "fresh labels\n"))
 
     def test_another_circuit(self):
