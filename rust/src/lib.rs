@@ -97,7 +97,7 @@ pub enum Version {
     V2 = 2,
 }
 
-/// The version of the library, such as `0.9.5`.
+/// The version of the library, such as `0.9.6`.
 #[must_use]
 #[doc(alias = "halfgates_version")]
 pub fn version() -> String {
