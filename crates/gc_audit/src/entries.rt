@@ -22,23 +22,29 @@ pub struct EntryDifference {
     pub colour: bool,
 }
 
+/// A garbling whose entries those of a file are compared with, its circuit, and its offset.
+#[derive(Drop)]
+pub(crate) struct Made<'a, A: Allocator, B: Allocator> {
+    pub circuit: &'a Circuit<A>,
+    pub garbling: &'a Garbling<B>,
+    pub offset: Offset,
+}
+
 /// The first of a file's entries that is not the garbling's. A file of version 1 has none. The caller ensures that the
 /// garbling fits the circuit, and that there are as many entry pairs as the version asks for.
 pub(crate) fn audit_entries<A: Allocator, B: Allocator>(
-    circuit: &Circuit<A>,
-    garbling: &Garbling<B>,
-    offset: Offset,
+    of: &Made<'_, A, B>,
     version: Version,
     filed: &[EntryPair],
 ) -> Option<EntryDifference>
-    requires fits { FitsCircuit circuit.now garbling.now }
-    requires entries { length filed.now ≡ entry_count version garbling.now.outputs }
-    ensures { let entries = version_entries version offset garbling.now in
+    requires fits { FitsCircuit of.now.circuit.now of.now.garbling.now }
+    requires entries { length filed.now ≡ entry_count version of.now.garbling.now.outputs }
+    ensures { let entries = version_entries version of.now.offset of.now.garbling.now in
         MatchOption result (filed.now ≡ entries) (IsEntryDifference filed.now entries) }
 {
     match version {
         Version::One => None,
-        Version::Two => audit_pairs(circuit, garbling, offset, filed),
+        Version::Two => audit_pairs(of, filed),
     }
 }
 
@@ -46,48 +52,45 @@ pub(crate) fn audit_entries<A: Allocator, B: Allocator>(
 /// ones by themselves. The caller ensures that the garbling fits the circuit, and that there is an entry pair for each
 /// output.
 fn audit_pairs<A: Allocator, B: Allocator>(
-    circuit: &Circuit<A>,
-    garbling: &Garbling<B>,
-    offset: Offset,
+    of: &Made<'_, A, B>,
     entries: &[EntryPair],
 ) -> Option<EntryDifference>
-    requires fits { FitsCircuit circuit.now garbling.now }
-    requires entries { length entries.now ≡ garbling.now.outputs }
-    ensures { MatchOption result (entries.now ≡ entry_pairs_of offset garbling.now)
-        (IsEntryDifference entries.now (entry_pairs_of offset garbling.now)) }
+    requires fits { FitsCircuit of.now.circuit.now of.now.garbling.now }
+    requires entries { length entries.now ≡ of.now.garbling.now.outputs }
+    ensures { MatchOption result (entries.now ≡ entry_pairs_of of.now.offset of.now.garbling.now)
+        (IsEntryDifference entries.now (entry_pairs_of of.now.offset of.now.garbling.now)) }
 {
-    let fours = garbling.outputs() / 4;
+    let fours = of.garbling.outputs() / 4;
     for k in 0..fours {
-        if let Some(difference) = audit_four(circuit, garbling, offset, entries, 4 * k) {
+        if let Some(difference) = audit_four(of, entries, 4 * k) {
             return Some(difference);
         }
     }
-    audit_last(circuit, garbling, offset, entries, 4 * fours)
+    audit_last(of, entries, 4 * fours)
 }
 
 /// The first of the entries of four outputs that is not the garbling's, where those before them are.
 fn audit_four<A: Allocator, B: Allocator>(
-    circuit: &Circuit<A>,
-    garbling: &Garbling<B>,
-    offset: Offset,
+    of: &Made<'_, A, B>,
     entries: &[EntryPair],
     first: u32,
 ) -> Option<EntryDifference>
-    requires fits { FitsCircuit circuit.now garbling.now }
-    requires entries { length entries.now ≡ garbling.now.outputs }
-    requires outputs { first + 4 ≤ garbling.now.outputs }
-    requires before { take first entries.now ≡ take first (entry_pairs_of offset garbling.now) }
+    requires fits { FitsCircuit of.now.circuit.now of.now.garbling.now }
+    requires entries { length entries.now ≡ of.now.garbling.now.outputs }
+    requires outputs { first + 4 ≤ of.now.garbling.now.outputs }
+    requires before { take first entries.now
+        ≡ take first (entry_pairs_of of.now.offset of.now.garbling.now) }
     ensures none { IfNone result (take (first + 4) entries.now
-        ≡ take (first + 4) (entry_pairs_of offset garbling.now)) }
+        ≡ take (first + 4) (entry_pairs_of of.now.offset of.now.garbling.now)) }
     ensures some { IfSome result
-        (IsEntryDifference entries.now (entry_pairs_of offset garbling.now)) }
+        (IsEntryDifference entries.now (entry_pairs_of of.now.offset of.now.garbling.now)) }
 {
-    circuit.law_lawful();
-    let made = four_output_entries(circuit, garbling, offset, first);
+    of.circuit.law_lawful();
+    let four = four_output_entries(of.circuit, of.garbling, of.offset, first);
     for i in 0..4u32 {
         let output = first + i;
         let pair = entries[output as usize];
-        if let Some(colour) = differing_colour(pair, made[i as usize]) {
+        if let Some(colour) = differing_colour(pair, four[i as usize]) {
             return Some(EntryDifference { output, colour });
         }
     }
@@ -96,23 +99,22 @@ fn audit_four<A: Allocator, B: Allocator>(
 
 /// The first of the entries from this output on that is not the garbling's, where those before it are.
 fn audit_last<A: Allocator, B: Allocator>(
-    circuit: &Circuit<A>,
-    garbling: &Garbling<B>,
-    offset: Offset,
+    of: &Made<'_, A, B>,
     entries: &[EntryPair],
     first: u32,
 ) -> Option<EntryDifference>
-    requires fits { FitsCircuit circuit.now garbling.now }
-    requires entries { length entries.now ≡ garbling.now.outputs }
-    requires first { first ≤ garbling.now.outputs }
-    requires before { take first entries.now ≡ take first (entry_pairs_of offset garbling.now) }
-    ensures { MatchOption result (entries.now ≡ entry_pairs_of offset garbling.now)
-        (IsEntryDifference entries.now (entry_pairs_of offset garbling.now)) }
+    requires fits { FitsCircuit of.now.circuit.now of.now.garbling.now }
+    requires entries { length entries.now ≡ of.now.garbling.now.outputs }
+    requires first { first ≤ of.now.garbling.now.outputs }
+    requires before { take first entries.now
+        ≡ take first (entry_pairs_of of.now.offset of.now.garbling.now) }
+    ensures { MatchOption result (entries.now ≡ entry_pairs_of of.now.offset of.now.garbling.now)
+        (IsEntryDifference entries.now (entry_pairs_of of.now.offset of.now.garbling.now)) }
 {
-    for output in first..garbling.outputs() {
+    for output in first..of.garbling.outputs() {
         let pair = entries[output as usize];
-        let entry_zero = output_entry(circuit, garbling, offset, output, false);
-        let entry_one = output_entry(circuit, garbling, offset, output, true);
+        let entry_zero = output_entry(of.circuit, of.garbling, of.offset, output, false);
+        let entry_one = output_entry(of.circuit, of.garbling, of.offset, output, true);
         if let Some(colour) = differing_colour(pair, (entry_zero, entry_one)) {
             return Some(EntryDifference { output, colour });
         }

@@ -13,7 +13,7 @@ ghost use Rattle.gc_file.specs.Honest.{honest_parts_with};
 ghost use Rattle.gc_audit.specs.Difference.{DifferFirstAt};
 ghost use Rattle.gc_audit.specs.Garbled.{AreCountsRight, IsPartsAudit, IsPartsAuditWith, IsGarbledAuditWith, honest_audit};
 
-use crate::entries::{EntryDifference, audit_entries};
+use crate::entries::{EntryDifference, Made, audit_entries};
 use crate::rows::{RowDifference, first_mismatch, row_difference};
 use gc_circuit::Circuit;
 use gc_file::{EntryPair, Garbled, Version};
@@ -99,10 +99,15 @@ fn audit_parts<A: Allocator, B: Allocator, C: Allocator>(
     if !are_counts_right(circuit, file) {
         return None;
     }
+    let made = Made {
+        circuit,
+        garbling,
+        offset,
+    };
     Some(PartsAudit {
         rows: row_difference(circuit, first_mismatch(garbling.rows(), file.rows())),
         bits: audit_bits(garbling, file.decode_bits()),
-        entries: audit_entries(circuit, garbling, offset, file.version(), file.entries()),
+        entries: audit_entries(&made, file.version(), file.entries()),
     })
 }
 
@@ -130,10 +135,15 @@ pub fn audit_compared<A: Allocator, B: Allocator>(
         → IsPartsAudit circuit.now (garbling_of circuit.now seed.now) seed.now file result }
 {
     circuit.law_lawful();
+    let made = Made {
+        circuit,
+        garbling: labels,
+        offset: offset(seed),
+    };
     PartsAudit {
         rows: row_difference(circuit, first),
         bits: audit_bits(labels, decode_bits),
-        entries: audit_entries(circuit, labels, offset(seed), version, entries),
+        entries: audit_entries(&made, version, entries),
     }
 }
 

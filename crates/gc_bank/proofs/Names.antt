@@ -17,5 +17,5 @@ pub use Rattle.gc_gates.specs.Pairs.{pairs}
 pub use Rattle.gc_gates.specs.Layout.{two_banks}
 pub use Rattle.gc_gates.specs.Places.{IsGatePlace}
 pub use Rattle.gc_rounds.specs.declared.view.Key.{Key}
-pub use Rattle.gc_rounds.specs.declared.view.Stand.TheVariants.{Inside, Outside}
-pub use Rattle.gc_steps.specs.Walks.{batches_left}
+pub use Rattle.gc_rounds.specs.declared.view.Position.TheVariants.{Inside, Outside}
+pub use Rattle.gc_steps.specs.Walks.{groups_left}

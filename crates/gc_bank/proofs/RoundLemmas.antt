@@ -50,8 +50,8 @@ has_round (first ∷ rest) c r on below =
 -- The round that a seat is inside, and its job.
 pub in_round : (jobs : List JobParts) (v : Seen) (r : ℕ) (job : JobParts)
     (P : ℕ → JobParts → Type 0)
-    → v.stand ≡ Inside r → slice_get jobs r ≡ Some job → P r job
-    → InRound jobs v (P (round_in v.stand))
+    → v.position ≡ Inside r → slice_get jobs r ≡ Some job → P r job
+    → InRound jobs v (P (round_in v.position))
 in_round jobs v r job P inside there p =
     subst (λ k. MatchOption (slice_get jobs k) ⊥ (P k)) (sym (ap round_in inside))
     (subst (λ o. MatchOption o ⊥ (P r)) (sym there) p)

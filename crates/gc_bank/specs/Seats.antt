@@ -1,7 +1,7 @@
 -- The seats of banks.
 use Rattle.std.specs.Prelude.{◌≡◌, ℕ, List, [], slice_get, MatchOption}
-use Rattle.gc_rounds.specs.declared.view.Stand.{Stand}
-use Rattle.gc_rounds.specs.declared.view.Stand.TheVariants.{Outside, Inside, Passing}
+use Rattle.gc_rounds.specs.declared.view.Position.{Position}
+use Rattle.gc_rounds.specs.declared.view.Position.TheVariants.{Outside, Inside, Passing}
 use Rattle.gc_gates.specs.declared.view.Hand.TheVariants.{Empty}
 use Rattle.gc_gates.specs.Places.{IsGatePlace}
 use Rattle.gc_gates.specs.Layout.{two_banks}
@@ -36,17 +36,17 @@ module _ {A B C : Type 0} where
   IsSameSeat old new = IsSamePlace old.place new.place
 
 -- the round that a seat is inside
-abbrev pub round_in : Stand → ℕ
+abbrev pub round_in : Position → ℕ
 round_in Outside = 0
 round_in (Inside r) = r
 round_in (Passing b) = 0
 
 abbrev pub round_of : Seen → ℕ
-round_of v = round_in v.stand
+round_of v = round_in v.position
 
 -- The seat is inside a round.
 abbrev pub IsInside : Seen → Type 0
-IsInside v = v.stand ≡ Inside (round_of v)
+IsInside v = v.position ≡ Inside (round_of v)
 
 -- The round that the seat is inside has a job, of which this holds.
 abbrev pub InRound : List JobParts → Seen → (JobParts → Type 0) → Type 0
@@ -54,7 +54,7 @@ InRound jobs v holds = MatchOption (slice_get jobs (round_of v)) ⊥ holds
 
 -- A seat that has done nothing.
 pub record IsNew (v : Seen) : Type 0 where
-  pub stand : v.stand ≡ Outside
+  pub position : v.position ≡ Outside
   pub hand : v.inner.hand ≡ Empty
   pub made : v.inner.made ≡ []
   pub known : v.inner.known ≡ []

@@ -1,7 +1,7 @@
 -- The workers of an evaluation of a list of jobs.
 use Rattle.std.specs.Prelude.{◌≡◌, ℕ, ◌+◌, ◌<◌, Bool, List, All, Option, Some, Vec, IfSome, Ok, length, slice_get, slice_index_or}
-use Rattle.gc_rounds.specs.declared.view.Stand.{Stand}
-use Rattle.gc_rounds.specs.declared.view.Stand.TheVariants.{Outside}
+use Rattle.gc_rounds.specs.declared.view.Position.{Position}
+use Rattle.gc_rounds.specs.declared.view.Position.TheVariants.{Outside}
 use Rattle.gc_netlist.specs.Solution.{on_outputs}
 use Rattle.gc_job.specs.Job.{JobParts}
 use Rattle.gc_job.specs.ActiveLabels.{active}
@@ -28,9 +28,10 @@ IsKept jobs kept = AreBitsOf jobs kept.round kept.bits.items
 module _ {A B C : Type 0} where
   -- The worker has a seat of these banks, which is here, it walks over the gates of their circuit, and what it kept is
   -- right.
-  pub record IsWorkerAt (banks : Banks B A C) (here : Stand) (worker : Worker B A C) : Type 0 where
+  pub record IsWorkerAt (banks : Banks B A C) (here : Position) (worker : Worker B A C)
+      : Type 0 where
     pub seat_of : IsSeatOf banks worker.seat
-    pub stands : (view worker.seat).stand ≡ here
+    pub stands : (view worker.seat).position ≡ here
     pub gates : worker.walk.gates ≡ gates_of (jobs_on banks)
     pub kept : All (IsKept (jobs_on banks)) worker.kept.items
 

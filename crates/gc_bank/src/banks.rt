@@ -2,7 +2,7 @@
 //! allocates.
 
 ghost use Rattle.std.specs.Prelude.{◌≡◌, ℕ, ◌+◌, ◌*◌, ◌<◌, ◌≤◌, ◌-◌, ◌^◌, length, min, Some, MatchOption, IfSome, IfNone};
-ghost use Rattle.gc_rounds.specs.declared.view.Stand.TheVariants.{Outside, Inside};
+ghost use Rattle.gc_rounds.specs.declared.view.Position.TheVariants.{Outside, Inside};
 ghost use Rattle.gc_rounds.specs.Calls.{Enters, EntersAlone, Leaves, Seals, Reopens};
 ghost use Rattle.gc_job.specs.ActiveLabels.{gates_of};
 ghost use Rattle.gc_bank.specs.Views.{Stays, Answers, AnswersTwo, AnswersFour, AnswersAlone, AnswersTwoAlone, Ran, Got, Lacks};
@@ -17,8 +17,8 @@ use std::alloc::Allocator;
 impl<B: Allocator, A: Allocator, C: Allocator> BankSeat<B, A, C> {
     /// The round that the seat is inside, if it is inside one.
     pub fn inside(&self) -> Option<u32>
-        ensures { MatchOption result ((view self.now).stand ≡ Outside)
-            (λ r. (view self.now).stand ≡ Inside r) }
+        ensures { MatchOption result ((view self.now).position ≡ Outside)
+            (λ r. (view self.now).position ≡ Inside r) }
     {
         self.inside
     }
@@ -38,7 +38,7 @@ impl<'j, 'c, B: Allocator, A: Allocator, C: Allocator> Banks<'j, 'c, B, A, C> {
     /// such a round.
     pub fn enter(&self, seat: &mut BankSeat<B, A, C>, round: u32) -> Entry
         requires own { IsSeatOf self.now seat.old }
-        requires outside { (view seat.old).stand ≡ Outside }
+        requires outside { (view seat.old).position ≡ Outside }
         requires round { round < length (jobs_on self.now) }
         ensures own { IsSeatOf self.now seat.new }
         ensures same { IsSameSeat seat.old seat.new }
@@ -202,7 +202,7 @@ impl<'j, 'c, B: Allocator, A: Allocator, C: Allocator> Banks<'j, 'c, B, A, C> {
     /// round but one.
     pub fn reopen(&self, seat: &mut BankSeat<B, A, C>, round: u32) -> Reopening
         requires own { IsSeatOf self.now seat.old }
-        requires outside { (view seat.old).stand ≡ Outside }
+        requires outside { (view seat.old).position ≡ Outside }
         requires round { round + 2 < length (jobs_on self.now) }
         ensures own { IsSeatOf self.now seat.new }
         ensures same { IsSameSeat seat.old seat.new }

@@ -2,7 +2,7 @@
 
 ghost use Rattle.std.specs.Prelude.{◌≡◌, ℕ, ◌<◌, ◌≤◌, ◌↔◌, ◌-◌, ◌^◌, [], length, map, min, sum, IfOk, IfErr, IsOk, IsTrue, All};
 ghost use Rattle.gc_workers.specs.Counts.{total};
-ghost use Rattle.gc_rounds.specs.declared.view.Stand.TheVariants.{Outside};
+ghost use Rattle.gc_rounds.specs.declared.view.Position.TheVariants.{Outside};
 ghost use Rattle.gc_gates.specs.Pairs.{pairs};
 ghost use Rattle.gc_gates.specs.Layout.{two_banks};
 ghost use Rattle.gc_gates.specs.Places.{IsGatePlace};
@@ -107,7 +107,7 @@ impl<'j, 'c, B: Allocator, A: Allocator, C: Allocator> Banks<'j, 'c, B, A, C> {
     /// Joins all seats in one, which shows that they made each gate at most once in each round.
     fn learn_all(&self, seats: Vec<BankSeat<B, A, C>, B>)
         requires own { All (IsSeatOf self.now) seats.items }
-        requires outside { All (λ s. (view s).stand ≡ Outside) seats.items }
+        requires outside { All (λ s. (view s).position ≡ Outside) seats.items }
         requires all { length seats.items ≡ seats_on self.now }
         ensures { (r g : ℕ) → total (λ s. pairs r g (view s).inner.made) seats.items ≤ 1 }
     {
@@ -126,7 +126,7 @@ impl<'j, 'c, B: Allocator, A: Allocator, C: Allocator> Banks<'j, 'c, B, A, C> {
         requires { All (IsSeatOf self) seats.items }
         ensures exact { IsOk result
             ↔ ((length seats.items ≡ seats_on self.entry)
-            × All (λ s. (view s).stand ≡ Outside) seats.items) }
+            × All (λ s. (view s).position ≡ Outside) seats.items) }
         ensures count { IfOk result
             (λ n. n ≡ min (total (λ s. length (view s).inner.made) seats.items) (2 ^ 64 - 1)) }
         ensures once { IfOk result
@@ -144,7 +144,7 @@ impl<'j, 'c, B: Allocator, A: Allocator, C: Allocator> Banks<'j, 'c, B, A, C> {
 
 /// Whether no seat is inside a round.
 fn are_outside<B: Allocator, A: Allocator, C: Allocator>(seats: &[BankSeat<B, A, C>]) -> bool
-    ensures { IsTrue result ↔ All (λ s. (view s).stand ≡ Outside) seats.now }
+    ensures { IsTrue result ↔ All (λ s. (view s).position ≡ Outside) seats.now }
 {
     for seat in seats {
         if seat.inside.is_some() {
@@ -172,7 +172,7 @@ fn gather<B: Allocator, A: Allocator, C: Allocator>(
 ) -> Place<Series<B, A, C>>
     requires own { All
         (λ s. IsGatePlace two_banks gates_of words.now.table_id words.now.key s.place) seats.items }
-    requires outside { All (λ s. (view s).stand ≡ Outside) seats.items }
+    requires outside { All (λ s. (view s).position ≡ Outside) seats.items }
     requires some { 0 < length seats.items }
     ensures at { IsGatePlace two_banks gates_of words.now.table_id words.now.key result }
     ensures seats { result.me.0.seats ≡ length seats.items }

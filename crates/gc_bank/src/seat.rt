@@ -2,7 +2,7 @@
 
 ghost use Rattle.std.specs.Prelude.{◌≡◌, ℕ, ◌<◌, ◌≤◌, ◌-◌, ◌^◌, [], length, min, slice_get, Some, None};
 ghost use Rattle.gc_rounds.specs.declared.words.TheConstants.{MAX_JOBS};
-ghost use Rattle.gc_rounds.specs.declared.view.Stand.TheVariants.{Outside, Inside};
+ghost use Rattle.gc_rounds.specs.declared.view.Position.TheVariants.{Outside, Inside};
 ghost use Rattle.gc_gates.specs.declared.view.Hand.TheVariants.{Empty};
 ghost use Rattle.gc_job.specs.Job.{JobParts};
 
@@ -19,8 +19,8 @@ pub struct BankSeat<B: Allocator = Global, A: Allocator = Global, C: Allocator =
     pub(crate) inside: Option<u32>,
     pub(crate) count: u64,
     ghost at_rest: { (place.me.0.inner.hand ≡ Empty) × (place.me.1 ≡ []) × (place.me.0.seats ≡ 1) },
-    ghost outside: { inside ≡ None → place.me.0.stand ≡ Outside },
-    ghost within: { (r : ℕ) → inside ≡ Some r → (place.me.0.stand ≡ Inside r)
+    ghost outside: { inside ≡ None → place.me.0.position ≡ Outside },
+    ghost within: { (r : ℕ) → inside ≡ Some r → (place.me.0.position ≡ Inside r)
         × (r < place.me.0.jobs) },
     ghost counted: { count ≡ min (length place.me.0.inner.made) (2 ^ 64 - 1) },
 }

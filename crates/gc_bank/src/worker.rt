@@ -2,8 +2,8 @@
 //! round, and the output bits that it keeps.
 
 ghost use Rattle.std.specs.Prelude.{◌≡◌, ◌+◌, ◌<◌, length, All, IfSome, IfOk};
-ghost use Rattle.gc_rounds.specs.declared.view.Stand.TheVariants.{Outside, Inside};
-ghost use Rattle.gc_steps.specs.Walks.{IsWithin, batches_left};
+ghost use Rattle.gc_rounds.specs.declared.view.Position.TheVariants.{Outside, Inside};
+ghost use Rattle.gc_steps.specs.Walks.{IsWithin, groups_left};
 ghost use Rattle.gc_bank.specs.Rounds.{gates_of};
 ghost use Rattle.gc_bank.specs.Seats.{IsSeatOf, IsNew, view, jobs_on};
 ghost use Rattle.gc_bank.specs.Workers.{AreBitsOf, AreLabelsOf, IsWorkerAt, IsWorkerOf, AreWorkersOf};
@@ -11,7 +11,7 @@ ghost use Rattle.gc_bank.specs.Workers.{AreBitsOf, AreLabelsOf, IsWorkerAt, IsWo
 use crate::seat::{BankSeat, Banks};
 use gc_label::Label;
 use gc_rounds::{Entry, Reopening};
-use gc_steps::{Batch, Walk};
+use gc_steps::{GateGroup, Walk};
 use gc_workers::Gatehouse;
 use std::alloc::{AllocError, Allocator};
 use std::thread;
@@ -46,10 +46,10 @@ fn output_labels<B: Allocator + Copy, A: Allocator, C: Allocator>(
     round: u32,
 ) -> Result<Option<Vec<Label, B>>, AllocError>
     requires own { IsSeatOf banks.now seat.old }
-    requires inside { (view seat.old).stand ≡ Inside round }
+    requires inside { (view seat.old).position ≡ Inside round }
     requires round { round < length (jobs_on banks.now) }
     ensures own { IsSeatOf banks.now seat.new }
-    ensures inside { (view seat.new).stand ≡ Inside round }
+    ensures inside { (view seat.new).position ≡ Inside round }
     ensures labels { IfOk result
         (λ o. IfSome o (λ v. AreLabelsOf (jobs_on banks.now) round v.items)) }
 {
@@ -92,10 +92,10 @@ fn await_bank<B: Allocator, A: Allocator, C: Allocator>(
     round: u32,
 ) -> bool
     requires own { IsSeatOf banks.now seat.old }
-    requires outside { (view seat.old).stand ≡ Outside }
+    requires outside { (view seat.old).position ≡ Outside }
     requires round { round + 2 < length (jobs_on banks.now) }
     ensures own { IsSeatOf banks.now seat.new }
-    ensures outside { (view seat.new).stand ≡ Outside }
+    ensures outside { (view seat.new).position ≡ Outside }
 {
     for _try in 0..TRIES {
         match banks.reopen(seat, round) {
@@ -107,33 +107,33 @@ fn await_bank<B: Allocator, A: Allocator, C: Allocator>(
 }
 
 impl<B: Allocator, A: Allocator, C: Allocator> Worker<B, A, C> {
-    /// Steps the gates of a batch in the round, and notes what each was returned.
+    /// Steps the gates of a group in the round, and notes what each was returned.
     fn step<H: Gatehouse>(
         &mut self,
         banks: &Banks<'_, '_, B, A, C>,
         observer: &H,
         round: u32,
-        batch: Batch,
+        group: GateGroup,
     )
         requires worker { IsWorkerAt banks.now (Inside round) self.old }
         requires round { round < length (jobs_on banks.now) }
-        requires batch { IsWithin (gates_of (jobs_on banks.now)) batch }
+        requires group { IsWithin (gates_of (jobs_on banks.now)) group }
         ensures worker { IsWorkerAt banks.now (Inside round) self.new }
-        ensures left { batches_left self.new.walk ≡ batches_left self.old.walk }
+        ensures left { groups_left self.new.walk ≡ groups_left self.old.walk }
     {
-        batch.report_to(observer, self.number);
+        group.report_to(observer, self.number);
         banks.law_round(round);
-        match batch {
-            Batch::One(a) => {
+        match group {
+            GateGroup::One(a) => {
                 let answer = banks.step(&mut self.seat, a);
                 self.walk.note(a, answer);
             }
-            Batch::Two(a, b) => {
+            GateGroup::Two(a, b) => {
                 let answers = banks.step_two(&mut self.seat, a, b);
                 self.walk.note(a, answers.0);
                 self.walk.note(b, answers.1);
             }
-            Batch::Four(a, b, c, d) => {
+            GateGroup::Four(a, b, c, d) => {
                 let answers = banks.step_four(&mut self.seat, a, b, c, d);
                 self.walk.note(a, answers.0);
                 self.walk.note(b, answers.1);
@@ -157,8 +157,8 @@ impl<B: Allocator, A: Allocator, C: Allocator> Worker<B, A, C> {
     {
         let circuit = banks.job(round).circuit();
         self.walk.begin(self.first, circuit.gates());
-        while let Some(batch) = self.walk.next(circuit) {
-            self.step(banks, observer, round, batch);
+        while let Some(group) = self.walk.next(circuit) {
+            self.step(banks, observer, round, group);
         }
         self.walk.has_learnt()
     }

@@ -7,7 +7,7 @@ mod part;
 mod timing;
 
 use anyhow::{Result, anyhow};
-use measures::Subject;
+use measures::Workload;
 use std::io::Read;
 use std::{env, fs};
 use timing::{Timing, print_times, time_parts};
@@ -31,7 +31,7 @@ fn main(rt: HostRuntime) -> Result<()> {
     }
     let mut text = Vec::new(rt.alloc());
     fs::open(&rt, file.as_str())?.read_to_end(&mut text)?;
-    let subject = Subject::new(rt.alloc(), &text)?;
-    time_parts(&rt, rt.alloc(), &subject, &text, repeats, &mut timings)?;
-    print_times(&rt, &subject.circuit, &timings)
+    let workload = Workload::new(rt.alloc(), &text)?;
+    time_parts(&rt, rt.alloc(), &workload, &text, repeats, &mut timings)?;
+    print_times(&rt, &workload.circuit, &timings)
 }

@@ -19,7 +19,7 @@ use std::thread::Threads;
 
 /// A circuit, and all that its parts take, with zeros as inputs.
 #[derive(Drop)]
-pub struct Subject {
+pub struct Workload {
     pub circuit: Circuit,
     seed: Seed,
     other: Seed,
@@ -54,12 +54,12 @@ impl Sink for Nowhere {
     }
 }
 
-impl Subject {
-    pub fn new(alloc: Global, text: &[u8]) -> Result<Subject> {
+impl Workload {
+    pub fn new(alloc: Global, text: &[u8]) -> Result<Workload> {
         let circuit = Circuit::read(alloc, text)?;
         let seed = Seed::from_bytes([0; 32]);
         let garbling = garble_one_thread(alloc, &circuit, &seed)?;
-        Ok(Subject {
+        Ok(Workload {
             values: values_of(alloc, &circuit)?,
             canonical_text: circuit.canon(alloc)?,
             garbled_file: file_of(alloc, &circuit, &garbling, &seed)?,
@@ -146,7 +146,7 @@ impl Subject {
         Ok(())
     }
 
-    /// As many hashes as [`Subject::lanes`] takes, in eight lanes.
+    /// As many hashes as [`Workload::lanes`] takes, in eight lanes.
     fn eight_lanes(&self) -> Result<()> {
         let mut labels = [0; 8];
         for k in 0..u64::from(self.circuit.and_count().div_ceil(2)) {

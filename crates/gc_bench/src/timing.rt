@@ -1,6 +1,6 @@
 //! The times that parts take.
 
-use crate::measures::Subject;
+use crate::measures::Workload;
 use crate::part::Part;
 use anyhow::{Result, anyhow};
 use gc_circuit::Circuit;
@@ -35,16 +35,16 @@ impl Timing {
 pub fn time_parts<R: Threads + Wait + Clock + Sync>(
     rt: &R,
     alloc: Global,
-    subject: &Subject,
+    workload: &Workload,
     text: &[u8],
     repeats: u32,
     timings: &mut [Timing],
 ) -> Result<()> {
-    let job = subject.job(alloc)?;
+    let job = workload.job(alloc)?;
     let listed = timings.iter().map(|it| it.part.jobs_listed());
-    let jobs = subject.jobs(alloc, listed.max().unwrap_or(0))?;
+    let jobs = workload.jobs(alloc, listed.max().unwrap_or(0))?;
     for _ in 0..repeats {
-        time_once(rt, alloc, subject, text, &job, &jobs, timings)?;
+        time_once(rt, alloc, workload, text, &job, &jobs, timings)?;
     }
     Ok(())
 }
@@ -53,7 +53,7 @@ pub fn time_parts<R: Threads + Wait + Clock + Sync>(
 fn time_once<R: Threads + Wait + Clock + Sync>(
     rt: &R,
     alloc: Global,
-    subject: &Subject,
+    workload: &Workload,
     text: &[u8],
     job: &Job,
     jobs: &[Job],
@@ -61,7 +61,7 @@ fn time_once<R: Threads + Wait + Clock + Sync>(
 ) -> Result<()> {
     for timing in timings {
         let start = Instant::now(rt)?;
-        subject.run(rt, alloc, timing.part, text, job, jobs)?;
+        workload.run(rt, alloc, timing.part, text, job, jobs)?;
         timing.nanoseconds = timing.nanoseconds.min(start.elapsed(rt)?.as_nanos());
     }
     Ok(())

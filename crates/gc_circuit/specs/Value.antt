@@ -13,13 +13,6 @@ code_of BadDigit = 15
 code_of WrongLength = 16
 code_of SpareBits = 17
 
--- the name of a fault
-abbrev pub name_of : ValueFault → List ℕ
-name_of Memory = codes "Memory"
-name_of BadDigit = codes "BadDigit"
-name_of WrongLength = codes "WrongLength"
-name_of SpareBits = codes "SpareBits"
-
 -- A text has one of two forms: a character `0` or `1` for each wire, in wire order, or two hexadecimal digits for
 -- each byte of eight wires.
 pub data ValueText : Type 0 where

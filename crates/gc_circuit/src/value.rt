@@ -1,10 +1,12 @@
 //! Value texts: reading the bits of an input value, and writing those of an output value.
 
 ghost use Rattle.std.specs.Prelude.{◌≡◌, ◌^◌, ◌⊎◌, ◌<◌, ◌≤◌, ◌++◌, ℕ, Bool, List, length, map, IfOk, IfErr, OnOk, IsFalse};
-ghost use Rattle.gc_circuit.specs.Value.{Binary, Hexadecimal, form_of, has_length, value_of_form, value_of_text, low_bits, binary_digit, code_of, name_of, ValueTextLaw};
+ghost use Rattle.gc_circuit.specs.Value.{Binary, Hexadecimal, form_of, has_length, value_of_form, value_of_text, low_bits, binary_digit, code_of, ValueTextLaw};
+ghost use Rattle.gc_netlist.specs.Names.{fault_name};
 
 use crate::hexadecimal::byte_of;
 use crate::memory::Memory;
+use gc_netlist::fault_name;
 use std::alloc::{AllocError, AllocFailed, Allocator};
 use std::error::Error;
 use std::fmt;
@@ -37,14 +39,9 @@ impl ValueFault {
 
     /// The fault's name.
     pub fn name(self) -> &'static str
-        ensures { result.now ≡ name_of self }
+        ensures { result.now ≡ fault_name (code_of self) }
     {
-        match self {
-            ValueFault::Memory => "Memory",
-            ValueFault::BadDigit => "BadDigit",
-            ValueFault::WrongLength => "WrongLength",
-            ValueFault::SpareBits => "SpareBits",
-        }
+        fault_name(self.code())
     }
 }
 
@@ -52,7 +49,7 @@ impl ValueFault {
 impl fmt::Display for ValueFault {
     ghost use Rattle.std.specs.Prelude.{Some};
 
-    ghost output = { λ fault. Some (name_of fault) };
+    ghost output = { λ fault. Some (fault_name (code_of fault)) };
 
     fn fmt<W: fmt::Write>(&self, f: &mut fmt::Formatter<W>) -> fmt::Result {
         f.write_str(self.name())

@@ -11,10 +11,10 @@ use Rattle.gc_command.specs.Check.{AnswersCheck, HasCheckFault}
 use Rattle.gc_command.specs.Garble.{AnswersGarble, HasGarbleFault}
 use Rattle.gc_command.specs.Deal.{AnswersDeal, HasDealFault}
 use Rattle.gc_command.specs.Eval.{AnswersEval, HasEvalFault}
-use Rattle.gc_trace.specs.Locate.{AnswersLocate, HasLocateFault}
-use Rattle.gc_trace.specs.Stats.{AnswersStats, HasStatsFault}
-use Rattle.gc_trace.specs.Labels.{AnswersLabels, HasLabelsFault}
-use Rattle.gc_trace.specs.Audit.{AnswersAudit, HasAuditFault}
+use Rattle.gc_command.specs.Locate.{AnswersLocate, HasLocateFault}
+use Rattle.gc_command.specs.Stats.{AnswersStats, HasStatsFault}
+use Rattle.gc_command.specs.Labels.{AnswersLabels, HasLabelsFault}
+use Rattle.gc_command.specs.Audit.{AnswersAudit, HasAuditFault}
 use Rattle.gc_command.specs.Jobs.{AnswersJobs, HasJobsFault}
 
 -- The order, which is no audit, is done: the bytes for standard output are its result, and where it writes a file, that

@@ -6,8 +6,8 @@ ghost use Rattle.gc_cli.specs.Serve.{FailsToPrint};
 
 use crate::output::Output;
 use gc_command::Fault;
-use gc_trace::audit::Audited;
-use gc_trace::labels::LabelLines;
+use gc_command::audit::Audited;
+use gc_command::labels::LabelLines;
 use std::alloc::Allocator;
 use std::io::Write;
 use std::marker::Model;

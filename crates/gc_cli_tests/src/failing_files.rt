@@ -3,9 +3,9 @@
 use crate::files::XOR_FILES;
 use crate::jobs::{assert_printed, result_of};
 use gc_command::Fault;
-use gc_worked::circuits::SEED;
-use gc_worked::compare::equal;
-use gc_worked::{Limits, MemFiles};
+use gc_fixtures::circuits::SEED;
+use gc_fixtures::compare::equal;
+use gc_fixtures::{Limits, MemFiles};
 use std::alloc::Global;
 use std::sync::Wait;
 use std::test::Fail;

@@ -2,10 +2,10 @@
 
 use crate::files::ADDER_FILES;
 use crate::jobs::{Outcome, outcome_of_refusal};
-use gc_refusing::Refusing;
-use gc_worked::MemFiles;
-use gc_worked::circuits::{ADDER_LINES, SEED};
-use gc_worked::compare::equal;
+use gc_fixtures::MemFiles;
+use gc_fixtures::circuits::{ADDER_LINES, SEED};
+use gc_fixtures::compare::equal;
+use gc_fixtures::refusing::Refusing;
 use std::alloc::Global;
 use std::sync::Wait;
 use std::test::Fail;
@@ -54,16 +54,15 @@ const EVALUATION: [Part; 2] = [(46, 4), OUTPUT_LINE];
 /// 121 bytes, in room for 8, 16, 32, 64 and 128.
 const CHECK_LINES: Part = (52, 5);
 
-/// The lines of a list, the words of a line, or the garbled files of a few lines: where room for several is refused,
-/// there is room for fewer.
+/// The lines of a list, or the words of a line: where room for several is refused, there is room for fewer.
 const PARTS: Part = (0, 1);
 
 const LIST_OF_JOBS: Part = (52, 1);
 
-/// The files of a few lines, before the garbled files are checked, and their jobs.
-const LINES: Part = (52, 1);
+/// The input labels.
+const BINDING: Part = (46, 1);
 
-const JOBS: Part = (52, 1);
+const JOB: Part = (52, 1);
 
 const WORDS: Part = (52, 1);
 
@@ -85,9 +84,9 @@ const LABEL_LINES: Part = (52, 1);
 /// 102 bytes, in room for 16, 32, 64 and 128, and the bit of each of three label files.
 const AUDIT_LINES: Part = (52, 7);
 
-/// The input labels in binding; a place for the bits of each job, and the labels of all wires, those of the outputs and
-/// the output bits, without which the job is evaluated once more; and the bits of all jobs.
-const JOBS_EVALUATION: [Part; 3] = [(46, 1), (0, 4), (46, 1)];
+/// A place for the bits of each job, and the labels of all wires, those of the outputs and the output bits, without
+/// which the job is evaluated once more; and the bits of all jobs.
+const JOBS_EVALUATION: [Part; 2] = [(0, 4), (46, 1)];
 
 /// Orders over the full adder, what each prints, and the parts of its work. What a sink takes is the files' own memory.
 /// Two threads read the files of `eval`, in no order: `refusals` has it.
@@ -124,9 +123,9 @@ static ORDERS: [(&[&str], &str, &[&[Part]]); 10] = [
         "01\n\n",
         &[
             &FIRST,
-            &[FILE, PARTS, LIST_OF_JOBS, LINES, PARTS, WORDS, FILE],
+            &[FILE, PARTS, LIST_OF_JOBS, PARTS, WORDS, GARBLED],
             &THREE_LABEL_FILES,
-            &[PARTS, JOBS, GARBLED],
+            &[BINDING, JOB],
             &JOBS_EVALUATION,
             &[OUTPUT_LINE],
         ],

@@ -1,8 +1,8 @@
 //! Tests of a reader that fails in mid-stream, and of a file on a disk for whose sink a growth is refused.
 
 use gc_disk::{FileError, Files, HostFiles, read_all};
-use gc_refusing::Refusing;
-use gc_worked::compare::equal;
+use gc_fixtures::compare::equal;
+use gc_fixtures::refusing::Refusing;
 use std::alloc::Global;
 use std::io::{self, ErrorKind, Read};
 use std::path::PathBuf;

@@ -5,19 +5,21 @@ use crate::jobs::result_of;
 use gc_command::Fault;
 use gc_disk::Reread;
 use gc_file::FileFault;
-use gc_refusing::Refusing;
-use gc_worked::MemFiles;
-use gc_worked::compare::equal;
+use gc_fixtures::MemFiles;
+use gc_fixtures::compare::equal;
+use gc_fixtures::refusing::Refusing;
 use std::alloc::Global;
 use std::sync::Wait;
 use std::test::Fail;
 use std::thread::Threads;
 
-/// Circuits, and how many lines are read at a time: the more wires the circuit has, the more of them.
+/// Circuits, and how many files are opened: the circuit, the list, and the files of the first line, two lines or eight,
+/// which are read at a time. The more wires the circuit has, the more lines. Of a line alone the garbled file is
+/// checked before its label file is opened.
 static CIRCUITS: [(&[u8], u64); 3] = [
-    (b"1 3\n2 1 1\n1 1\n2 1 0 1 2 XOR", 1),
-    (b"1 5\n2 2 2\n1 1\n2 1 0 2 4 XOR", 2),
-    (b"1 15\n2 7 7\n1 1\n2 1 0 7 14 XOR", 8),
+    (b"1 3\n2 1 1\n1 1\n2 1 0 1 2 XOR", 3),
+    (b"1 5\n2 2 2\n1 1\n2 1 0 2 4 XOR", 6),
+    (b"1 15\n2 7 7\n1 1\n2 1 0 7 14 XOR", 18),
 ];
 
 /// Nine lines, each with an empty garbled file and a label file without labels.
@@ -43,13 +45,13 @@ fn opened<R: Threads + Wait + Sync>(
     Ok((fault, files.trail().opened()))
 }
 
-/// The circuit and the list are opened, and then two files of each line that is read before the first is checked.
+/// No file is opened after those of the lines that are read at a time.
 #[test]
 fn lines_at_a_time(rt: HostRuntime) -> Result<(), Fail> {
     let fault = Some(Fault::File(FileFault::Truncated));
-    for (circuit, lines) in &CIRCUITS {
+    for (circuit, count) in &CIRCUITS {
         let found = opened(&rt, rt.alloc(), circuit)?;
-        equal(found, (fault, 2 + 2 * *lines))?;
+        equal(found, (fault, *count))?;
     }
     Ok(())
 }

@@ -3,10 +3,10 @@
 use gc_cli::{Answer, Output, carry_out};
 use gc_command::{Context, Fault, Silent};
 use gc_disk::Files;
+use gc_fixtures::MemFiles;
+use gc_fixtures::compare::equal;
+use gc_fixtures::refusing::Refusing;
 use gc_order::{Order, order_of};
-use gc_refusing::Refusing;
-use gc_worked::MemFiles;
-use gc_worked::compare::equal;
 use std::alloc::{AllocError, Allocator, Global};
 use std::sync::Wait;
 use std::test::Fail;

@@ -1,6 +1,6 @@
 //! The tests of commands that need what no disk gives: files that fail at each call and in mid-stream, each growth
-//! refused in turn, lists of jobs of which it is known which files were opened, streams that fail, files that are
-//! hashed while they are read, and the steps that commands report.
+//! refused in turn, lists of jobs of which it is known which files were opened, streams that fail, and the steps that
+//! commands report.
 #![tactic(auto)]
 
 #[cfg(test)]
@@ -11,8 +11,6 @@ mod failing_files;
 mod files;
 #[cfg(test)]
 mod growth;
-#[cfg(test)]
-mod hashed_files;
 #[cfg(test)]
 mod host_files;
 #[cfg(test)]

@@ -6,11 +6,11 @@ use crate::jobs::{Outcome, assert_printed, outcome_of_refusal, result_of};
 use gc_circuit::Circuit;
 use gc_command::Fault;
 use gc_file::Version;
-use gc_refusing::Refusing;
-use gc_worked::MemFiles;
-use gc_worked::circuits::{SEED, and_chains};
-use gc_worked::compare::equal;
-use gc_worked::files::{label_file, write};
+use gc_fixtures::MemFiles;
+use gc_fixtures::circuits::{SEED, and_chains};
+use gc_fixtures::compare::equal;
+use gc_fixtures::files::{label_file, write};
+use gc_fixtures::refusing::Refusing;
 use std::alloc::Global;
 use std::sync::Wait;
 use std::test::Fail;
@@ -95,18 +95,18 @@ fn assert_orders<R: Threads + Wait + Sync>(
     Ok(())
 }
 
-/// The label file of a value of 32 bits, all of which are set.
-fn labels(alloc: Global, text: &str) -> Result<Vec<u8>, Fail> {
+/// A circuit's garbled file, and the label file of a value of 32 bits, all of which are set.
+fn garbled_and_labels(alloc: Global, text: &str) -> Result<(Vec<u8>, Vec<u8>), Fail> {
     let circuit = Circuit::read(alloc, text.as_bytes())?;
-    label_file(alloc, &circuit, 0, &[true; 32])
+    let garbled = write(alloc, &circuit, Version::Two, None)?.bytes;
+    Ok((garbled, label_file(alloc, &circuit, 0, &[true; 32])?))
 }
 
 #[test]
 fn by_two_workers(rt: HostRuntime) -> Result<(), Fail> {
     let alloc = rt.alloc();
     let text = and_chains(alloc, 32, 32)?;
-    let garbled = write(alloc, text.as_str(), Version::Two, None)?.bytes;
-    let labels = labels(alloc, text.as_str())?;
+    let (garbled, labels) = garbled_and_labels(alloc, text.as_str())?;
     let files: [(&str, &[u8]); 4] = [
         ("c.txt", text.as_bytes()),
         ("g", garbled.as_slice()),

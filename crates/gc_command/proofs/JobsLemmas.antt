@@ -1,5 +1,6 @@
 -- From what each step of `jobs` returns to what it returns as a whole.
 use Rattle.gc_command.proofs.JobsNames.{◌≡◌, ℕ, ◌+◌, ◌<◌, map, drop, drop-cons, get_or, Bool, List, [], ◌∷◌, IfSome, sum, inl, inr, length, slice_get, Some, sym, ap, ◌∙◌, zero, suc, refl, add-one, arith, slice_get_within, slice_get_cases, JobParts, AreEvaluated, AreOnOneCircuit, FileBytes, GivesFile, Fault, IsJobList, listed, NameJob, HasNamedFault, NameJobs, FirstBadJob, HasLinesFault, HasListFault, HasJobsFault}
+use Rattle.std.specs.Prelude.{All, slice_index_or}
 use Rattle.gc_netlist.specs.Circuit.{Netlist, IsLawful}
 use Rattle.gc_file.specs.GarbledFile.{GarbledParts, IsGarbledFile}
 use Rattle.gc_command.specs.declared.fault.Fault.TheVariants as faults
@@ -115,3 +116,20 @@ named_count bytes c [] [] named = refl
 named_count bytes c (words ∷ lines) (job ∷ jobs) named =
     ap suc (named_count bytes c lines jobs named.1)
 named_count bytes c _ _ named = absurd named
+
+-- The words of the only line,
+pub only-words : {X : Type 0} (words_of : X → List (List ℕ)) (lines : List X) (d : X)
+    → 0 < length lines → All (λ words. 0 < length words) (map words_of lines)
+    → 0 < length (words_of (slice_index_or lines 0 d))
+only-words words_of [] d some all = absurd (omega (arith, some))
+only-words words_of (line ∷ lines) d some all = all 0 [] (omega arith)
+
+-- and the only job, which they name.
+pub only-named : {X : Type 0} (bytes : FileBytes) (c : Netlist) (words_of : X → List (List ℕ))
+    (lines : List X) (d : X) (job : JobParts) → 0 < length lines → length lines < 2
+    → NameJob bytes c (words_of (slice_index_or lines 0 d)) job
+    → NameJobs bytes c (map words_of lines) (job ∷ [])
+only-named bytes c words_of [] d job some few named = absurd (omega (arith, some))
+only-named bytes c words_of (line ∷ []) d job some few named = (named, tt)
+only-named bytes c words_of (line ∷ next ∷ lines) d job some few named =
+    absurd (omega (arith, few))

@@ -13,3 +13,8 @@ pub mod JobListLemmas
 pub mod JobsLemmas
 pub mod JobsNames
 pub mod LineLemmas
+pub mod WireLemmas
+pub mod LabelsLemmas
+pub mod AuditLemmas
+pub mod AuditFaults
+pub mod LocateLemmas

@@ -78,13 +78,13 @@ module _ {A : Type 0} (bytes : FileBytes) (old : FailedFiles) where
 module _ (bytes : FileBytes) (Failed : List ℕ → Type 0) (c : Netlist) where
   -- The fault of reading a garbled file, that of its bytes, and that of binding it are faults of
   -- the words that name it.
-  garbled_fault : (garbled : List ℕ) (labels : List (List ℕ)) (fault : Fault)
+  pub garbled-fault : (garbled : List ℕ) (labels : List (List ℕ)) (fault : Fault)
       → HasGarbledFault bytes Failed garbled fault
       → HasNamedFault bytes Failed c (garbled ∷ labels) fault
-  garbled_fault garbled labels (faults.File fault) has = inl has
-  garbled_fault garbled labels faults.CannotRead has = inl has
-  garbled_fault garbled labels faults.Memory has = tt
-  garbled_fault garbled labels fault has = absurd (garbled-kind bytes Failed garbled fault has)
+  garbled-fault garbled labels (faults.File fault) has = inl has
+  garbled-fault garbled labels faults.CannotRead has = inl has
+  garbled-fault garbled labels faults.Memory has = tt
+  garbled-fault garbled labels fault has = absurd (garbled-kind bytes Failed garbled fault has)
 
   bytes_fault : (garbled : List ℕ) (labels : List (List ℕ)) (held : List ℕ) (fault : Fault)
       → GivesFile (bytes garbled) held → HasBytesFault held fault
@@ -94,11 +94,11 @@ module _ (bytes : FileBytes) (Failed : List ℕ → Type 0) (c : Netlist) where
       (has other))
   bytes_fault garbled labels held fault given has = absurd has
 
-  binding_fault : (garbled : List ℕ) (labels : List (List ℕ)) (g : GarbledParts)
+  pub binding-fault : (garbled : List ℕ) (labels : List (List ℕ)) (g : GarbledParts)
       (files : List LabelFileParts) (fault : Fault)
       → IfSome (bytes garbled) (λ held. IsGarbledFile held g) → AreLabelFiles bytes labels files
       → HasBindingFault c g files fault → HasNamedFault bytes Failed c (garbled ∷ labels) fault
-  binding_fault garbled labels g files (faults.Binding fault) garbled_read labels_read has =
+  binding-fault garbled labels g files (faults.Binding fault) garbled_read labels_read has =
       let named : NameFiles bytes (garbled ∷ labels) g files =
       record {
         garbled = garbled;
@@ -108,7 +108,7 @@ module _ (bytes : FileBytes) (Failed : List ℕ → Type 0) (c : Netlist) where
         labels_read = labels_read;
       } in
       (g, (files, (named, has)))
-  binding_fault garbled labels g files fault garbled_read labels_read has = absurd has
+  binding-fault garbled labels g files fault garbled_read labels_read has = absurd has
 
 module _ {A : Type 0} (bytes : FileBytes) (Failed : List ℕ → Type 0) (c : Netlist) where
   -- The job that a line's files make is the one that its words name,
@@ -138,7 +138,7 @@ module _ {A : Type 0} (bytes : FileBytes) (Failed : List ℕ → Type 0) (c : Ne
       → HasNamedFault bytes Failed c words fault
   named_fault [] files fault named none = absurd named
   named_fault (garbled ∷ labels) (Unread first) fault named none =
-      rw none (garbled_fault bytes Failed c garbled labels first named)
+      rw none (garbled-fault bytes Failed c garbled labels first named)
   named_fault (garbled ∷ labels) (Unlabelled held first) fault named (inl bad) =
       bytes_fault bytes Failed c garbled labels held.items fault named.0 bad
   named_fault (garbled ∷ labels) (Unlabelled held first) fault named (inr (g, is, same)) =
@@ -148,7 +148,7 @@ module _ {A : Type 0} (bytes : FileBytes) (Failed : List ℕ → Type 0) (c : Ne
   named_fault (garbled ∷ labels) (Whole held parts) fault named (inl bad) =
       bytes_fault bytes Failed c garbled labels held.items fault named.0 bad
   named_fault (garbled ∷ labels) (Whole held parts) fault named (inr (g, is, has)) =
-      binding_fault bytes Failed c garbled labels g parts.items fault
+      binding-fault bytes Failed c garbled labels g parts.items fault
       (found_where_known (λ held. IsGarbledFile held g) (bytes garbled) held.items named.0 is)
       named.1 has
 

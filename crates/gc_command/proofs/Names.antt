@@ -15,7 +15,7 @@ pub use Rattle.gc_command.specs.OwnFiles.{AreGarbledBytes, AreLabelsOf}
 pub use Rattle.gc_command.specs.Values.{SpellValues, IsInputValue, FirstBadValue}
 pub use Rattle.gc_command.specs.declared.fault.Fault.{Fault}
 pub use Rattle.gc_file.proofs.OneFile.{one_file, file_not_fault}
-pub use Rattle.gc_file.specs.Honest.{honest_parts}
+pub use Rattle.gc_file.specs.Honest.{honest_parts, honest_parts_with}
 pub use Rattle.gc_disk.specs.Files.{FailedFiles, HasFailed, CountsWrite, FileBytes}
 pub use Rattle.gc_file.specs.GarbledFile.{GarbledParts, IsGarbledFile, garbled_file}
 pub use Rattle.gc_file.specs.LabelFile.{LabelFileParts, IsLabelFile, label_file, label_parts_of}

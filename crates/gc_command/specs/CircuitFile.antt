@@ -1,7 +1,5 @@
--- The circuit of a file, its digest, and the faults that the file may have.
-use Rattle.std.specs.Prelude.{◌≡◌, ◌≢◌, ℕ, List, Option, IfSome, MatchOption, Ok, Err}
-use Rattle.sha2.specs.Sha256.{sha256}
-use Rattle.gc_netlist.specs.Canon.{canonical_text}
+-- The circuit of a file, and the faults that the file may have.
+use Rattle.std.specs.Prelude.{◌≡◌, ◌≢◌, ℕ, List, Option, IfSome, Ok, Err}
 use Rattle.gc_netlist.specs.declared.fault.ReadFault.TheVariants as read
 use Rattle.gc_netlist.specs.Circuit.{Netlist, IsLawful}
 use Rattle.gc_netlist.specs.Text.{tokens}
@@ -16,11 +14,6 @@ pub record IsCircuit (bytes : List ℕ) (c : Netlist) : Type 0 where
   pub read : circuit_of (tokens bytes) ≡ Ok c
   pub spelled : Spells bytes c
   pub lawful : IsLawful c
-
--- The digest of the circuit, and none where the text is its canonical text.
-abbrev pub IsOtherDigest : Netlist → List ℕ → Option (List ℕ) → Type 0
-IsOtherDigest c text other =
-    MatchOption other (text ≡ canonical_text c) (λ digest. digest ≡ sha256 (canonical_text c))
 
 -- The fault is one that a circuit's file may have.
 abbrev pub IsCircuitFault : Fault → Type 0
@@ -43,3 +36,9 @@ pub record HasReadingFault (bytes : Option (List ℕ)) (Failed : Type 0) (fault 
   pub kind : IsCircuitFault fault
   pub first : IfSome bytes (λ held. HasCircuitFault held fault)
   pub cause : HasCause fault Failed ⊥
+
+-- Reading a circuit's text has this fault.
+pub record IsTextFault (text : List ℕ) (fault : Fault) : Type 0 where
+  pub kind : IsCircuitFault fault
+  pub first : HasCircuitFault text fault
+  pub cause : HasCause fault ⊥ ⊥

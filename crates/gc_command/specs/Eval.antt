@@ -1,20 +1,17 @@
 -- The command `eval`: what it returns, and which fault it has. What is said of a file is said where its bytes are
 -- known.
-use Rattle.std.specs.Prelude.{◌≡◌, ◌≢◌, ℕ, ◌⊎◌, Bool, List, [], ◌∷◌, IfSome, MatchResult}
-use Rattle.sha2.specs.Sha256.{sha256}
-use Rattle.gc_netlist.specs.Canon.{canonical_text}
-use Rattle.gc_netlist.specs.Circuit.{Netlist, IsLawful}
+use Rattle.std.specs.Prelude.{◌≡◌, ◌≢◌, ℕ, ◌⊎◌, Bool, List, [], ◌∷◌, IfSome}
+use Rattle.gc_netlist.specs.Circuit.{Netlist}
 use Rattle.gc_file.specs.declared.fault.FileFault.TheVariants as file
 use Rattle.gc_file.specs.GarbledFile.{GarbledParts, IsGarbledFile}
 use Rattle.gc_file.specs.LabelFile.{LabelFileParts, IsLabelFile}
 use Rattle.gc_file.specs.FileFault.{FirstFault, FirstLabelFault}
 use Rattle.gc_workers.specs.Workers.{AreFew}
 use Rattle.gc_disk.specs.Files.{FileBytes}
-use Rattle.gc_command.specs.declared.eval.Evaluated.{Evaluated}
 use Rattle.gc_command.specs.declared.fault.Fault.{Fault}
 use Rattle.gc_command.specs.declared.fault.Fault.TheVariants.{Circuit, File, Binding, Evaluation, CannotRead, Memory}
 use Rattle.gc_command.specs.declared.value_form.ValueForm.{ValueForm}
-use Rattle.gc_command.specs.CircuitFile.{IsCircuit, IsOtherDigest, HasCircuitFault}
+use Rattle.gc_command.specs.CircuitFile.{IsCircuit, HasCircuitFault}
 use Rattle.gc_command.specs.Lines.{output_lines}
 use Rattle.gc_command.specs.Job.{DecodeTo, HasJobFault}
 
@@ -68,20 +65,6 @@ pub record AreFilesGiven (bytes : FileBytes) (garbled : List ℕ) (labels : List
     (g : GarbledParts) (files : List LabelFileParts) : Type 0 where
   pub garbled_read : IfSome (bytes garbled) (λ held. IsGarbledFile held g)
   pub labels_read : AreLabelFiles bytes labels files
-
--- The files of these names are the circuit with this text, a garbled file that names this digest, and label files. Where
--- the digest is the circuit's, these are the outputs that they decode to, or the fault of their job.
-pub record IsEvaluated {A : Type 0} (bytes : FileBytes) (circuit garbled : List ℕ) (workers : ℕ)
-    (labels : List (List ℕ)) (text : List ℕ) (made : Evaluated A) : Type 0 where
-  pub lawful : IsLawful made.circuit
-  pub other : IsOtherDigest made.circuit text made.other
-  pub g : GarbledParts
-  pub files : List LabelFileParts
-  pub input : AreEvalFiles bytes circuit garbled labels made.circuit g files
-  pub names : made.named ≡ g.digest
-  pub outcome : g.digest ≡ sha256 (canonical_text made.circuit) → MatchResult made.outputs
-      (λ bits. AreFew workers × DecodeTo made.circuit g files bits.items)
-      (HasJobFault made.circuit g files workers)
 
 -- What `eval` returns: the lines of what the files decode to, whatever the number of workers.
 pub record AnswersEval (bytes : FileBytes) (circuit garbled : List ℕ) (workers : ℕ)

@@ -1,13 +1,14 @@
--- The numbers, names and texts of faults.
+-- The numbers and texts of faults.
 use Rattle.std.specs.Prelude.{◌≡◌, ℕ, List, ◌∷◌, ◌++◌, codes}
 use Rattle.std.specs.Fmt.{decimal}
+use Rattle.gc_netlist.specs.Names.{fault_name}
 use Rattle.gc_netlist.specs.Fault as read
 use Rattle.gc_circuit.specs.Value as value
 use Rattle.gc_file.specs.Fault as held
 use Rattle.gc_file.specs.declared.take.TakeFault.{TakeFault}
 use Rattle.gc_file.specs.declared.take.TakeFault.TheVariants as take
 use Rattle.gc_work.specs.WorkFault as work
-use Rattle.gc_job.specs.Fault.{bind_code_of, bind_name_of, eval_code_of, eval_name_of}
+use Rattle.gc_job.specs.Fault.{bind_code_of, eval_code_of}
 use Rattle.gc_disk.specs.declared.files.FileError.{FileError}
 use Rattle.gc_disk.specs.declared.files.FileError.TheVariants as file
 use Rattle.gc_disk.specs.Files.{FailedFiles, HasFailed}
@@ -29,24 +30,9 @@ code_of CannotRead = 50
 code_of CannotWrite = 51
 code_of Memory = 52
 
-abbrev pub name_of : Fault → List ℕ
-name_of (Circuit fault) = read.name_of fault
-name_of WrongCount = codes "WrongCount"
-name_of (Value fault) = value.name_of fault
-name_of BadSeed = codes "BadSeed"
-name_of NoSuchValue = codes "NoSuchValue"
-name_of (Garbling fault) = work.name_of fault
-name_of (File fault) = held.name_of fault
-name_of (Binding fault) = bind_name_of fault
-name_of (Evaluation fault) = eval_name_of fault
-name_of BadList = codes "BadList"
-name_of CannotRead = codes "CannotRead"
-name_of CannotWrite = codes "CannotWrite"
-name_of Memory = codes "Memory"
-
 -- `fault`, the number in decimal digits, and the name
 abbrev pub text_of : Fault → List ℕ
-text_of fault = codes "fault " ++ decimal (code_of fault) ++ 32 ∷ name_of fault
+text_of fault = codes "fault " ++ decimal (code_of fault) ++ 32 ∷ fault_name (code_of fault)
 
 -- the fault of a command where taking a garbled file has this one
 abbrev pub IsFaultOfTaking : TakeFault → Fault → Type 0

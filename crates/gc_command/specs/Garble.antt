@@ -10,6 +10,7 @@ use Rattle.gc_file.specs.GarbledFile.{garbled_file}
 use Rattle.gc_file.specs.Honest.{honest_parts}
 use Rattle.gc_command.specs.declared.fault.Fault.{Fault}
 use Rattle.gc_command.specs.declared.fault.Fault.TheVariants.{Circuit, BadSeed, Garbling, CannotRead, CannotWrite, Memory}
+use Rattle.gc_command.specs.Fault.{HasCause}
 use Rattle.gc_command.specs.CircuitFile.{IsCircuit, HasCircuitFault}
 use Rattle.gc_command.specs.SeedText.{IsSeed}
 use Rattle.gc_command.specs.Wrote.{HasWritten}
@@ -18,13 +19,6 @@ use Rattle.gc_command.specs.Wrote.{HasWritten}
 pub record IsGarbleInput (bytes seed_text : List ℕ) (c : Netlist) (seed : List ℕ) : Type 0 where
   pub circuit : IsCircuit bytes c
   pub seed_read : IsSeed seed_text seed
-
--- The garbled file of the version was written, of the circuit's garbling under the seed.
-pub record HasWrittenGarbling (version : Version) (c : Netlist) (seed : List ℕ)
-    (held : Option (List ℕ)) (lines : List ℕ) : Type 0 where
-  pub garbling : GarblingParts
-  pub garbled : IsGarbled c seed garbling
-  pub written : HasWritten (garbled_file (honest_parts version c garbling seed)) held lines
 
 -- What `garble` does, whatever the number of workers: it writes the garbled file of the version, of the circuit's
 -- garbling under the seed, and states its number of bytes.
@@ -49,3 +43,8 @@ HasGarbleFault bytes seed workers CannotWrite =
     ((c : Netlist) × ((key : List ℕ) × IsGarbleInput bytes seed c key)) × AreFew workers
 HasGarbleFault bytes seed workers Memory = Unit {0}
 HasGarbleFault bytes seed workers _ = ⊥
+
+-- Reading what `garble` garbles has this fault, and no file is its cause.
+pub record IsGarbleInputFault (text seed : List ℕ) (workers : ℕ) (fault : Fault) : Type 0 where
+  pub first : HasGarbleFault text seed workers fault
+  pub cause : HasCause fault ⊥ ⊥

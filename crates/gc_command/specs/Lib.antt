@@ -16,3 +16,7 @@ pub mod OwnFiles
 pub mod JobList
 pub mod LineFiles
 pub mod Jobs
+pub mod Labels
+pub mod Stats
+pub mod Audit
+pub mod Locate

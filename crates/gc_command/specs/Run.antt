@@ -1,9 +1,8 @@
 -- The command `run`: what it returns, and which fault it has.
-use Rattle.std.specs.Prelude.{◌≡◌, ℕ, Bool, List, map}
+use Rattle.std.specs.Prelude.{◌≡◌, ℕ, Bool, List}
 use Rattle.std.specs.List.{flat_map}
 use Rattle.gc_netlist.specs.Circuit.{Netlist}
 use Rattle.gc_circuit.specs.Meaning.{AreOutputs}
-use Rattle.gc_half.specs.Garbling.{IsGarbled}
 use Rattle.gc_work.specs.declared.fault.WorkFault.TheVariants as work
 use Rattle.gc_workers.specs.Workers.{AreFew}
 use Rattle.gc_work.specs.WorkFault.{HasWorkFault}
@@ -12,10 +11,8 @@ use Rattle.gc_job.specs.declared.fault.BindFault.TheVariants as bind
 use Rattle.gc_job.specs.declared.fault.EvalFault.TheVariants as eval
 use Rattle.gc_command.specs.declared.fault.Fault.{Fault}
 use Rattle.gc_command.specs.declared.fault.Fault.TheVariants.{Garbling, File, Binding, Evaluation, Memory}
-use Rattle.gc_command.specs.declared.run.GarbledInput.{GarbledInput}
 use Rattle.gc_command.specs.declared.value_form.ValueForm.{ValueForm}
 use Rattle.gc_command.specs.Fault.{HasCause}
-use Rattle.gc_command.specs.CircuitFile.{IsOtherDigest}
 use Rattle.gc_command.specs.Input.{IsInput, HasInput, HasInputFault}
 use Rattle.gc_command.specs.Lines.{output_lines}
 
@@ -27,14 +24,6 @@ IsWantOfMemory (Binding fault) = fault ≡ bind.Memory
 IsWantOfMemory (Evaluation fault) = fault ≡ eval.Memory
 IsWantOfMemory Memory = Unit {0}
 IsWantOfMemory _ = ⊥
-
--- A run has read this input, and has garbled the circuit under the seed.
-pub record IsGarbledInput {A : Type 0} (text seed : List ℕ) (texts : List (List ℕ)) (workers : ℕ)
-    (made : GarbledInput A) : Type 0 where
-  pub input : IsInput text seed texts made.circuit (map (λ value. value.items) made.values.items)
-  pub other : IsOtherDigest made.circuit text made.other
-  pub garbled : IsGarbled made.circuit made.seed made.garbling
-  pub few : AreFew workers
 
 -- What `run` returns: the lines of the circuit's outputs on the values, whatever the number of workers.
 pub record AnswersRun (bytes seed : List ℕ) (workers : ℕ) (form : ValueForm)

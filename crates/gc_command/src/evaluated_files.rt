@@ -12,6 +12,11 @@ use gc_file::{Garbled, LabelFile, read_garbled_from, read_labels};
 use std::alloc::Allocator;
 use std::convert::AsStr;
 
+/// Whether the garbled file and the label files of these names can be read ahead of their turn: all are regular files.
+pub fn are_regular<N: AsStr, F: Files>(garbled: &str, labels: &[N], files: &F) -> bool {
+    files.is_regular(garbled) && labels.iter().all(|name| files.is_regular(name.as_str()))
+}
+
 /// The garbled file of this name, read in pieces.
 pub fn read_garbled_file<A: Allocator + Copy, F: Files>(
     alloc: A,

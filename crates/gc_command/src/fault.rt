@@ -1,13 +1,15 @@
 //! What can end a command early.
 
 ghost use Rattle.std.specs.Prelude.{◌≡◌, Some};
-ghost use Rattle.gc_command.specs.Fault.{code_of, name_of, text_of};
+ghost use Rattle.gc_netlist.specs.Names.{fault_name};
+ghost use Rattle.gc_command.specs.Fault.{code_of, text_of};
 
 use gc_circuit::{ReadFault, ValueFault};
 use gc_disk::FileError;
 use gc_file::{FileFault, TakeFault, WriteFault};
 use gc_job::{BindFault, EvalFault};
 use gc_label::BadSeed;
+use gc_netlist::fault_name;
 use gc_work::WorkFault;
 use std::alloc::{AllocError, AllocFailed};
 use std::error::Error;
@@ -68,23 +70,9 @@ impl Fault {
 
     /// The name of the fault, as users see it.
     pub fn name(self) -> &'static str
-        ensures { result.now ≡ name_of self }
+        ensures { result.now ≡ fault_name (code_of self) }
     {
-        match self {
-            Fault::Circuit(fault) => fault.name(),
-            Fault::WrongCount => "WrongCount",
-            Fault::Value(fault) => fault.name(),
-            Fault::BadSeed => "BadSeed",
-            Fault::NoSuchValue => "NoSuchValue",
-            Fault::Garbling(fault) => fault.name(),
-            Fault::File(fault) => fault.name(),
-            Fault::Binding(fault) => fault.name(),
-            Fault::Evaluation(fault) => fault.name(),
-            Fault::BadList => "BadList",
-            Fault::CannotRead => "CannotRead",
-            Fault::CannotWrite => "CannotWrite",
-            Fault::Memory => "Memory",
-        }
+        fault_name(self.code())
     }
 }
 

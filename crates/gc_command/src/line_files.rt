@@ -1,13 +1,14 @@
 //! The files that a line of a list names, and the job that they make.
 
-ghost use Rattle.std.specs.Prelude.{◌≡◌, ◌<◌, ℕ, true, List, length, IfOk, IfErr};
+ghost use Rattle.std.specs.Prelude.{◌≡◌, ◌<◌, ℕ, true, List, length, IfOk, IfErr, OnOk};
 ghost use Rattle.sha2.specs.Sha256.{sha256};
 ghost use Rattle.gc_netlist.specs.Canon.{canonical_text};
 ghost use Rattle.gc_netlist.specs.Text.{tokens};
 ghost use Rattle.gc_disk.specs.Files.{HasFailed};
+ghost use Rattle.gc_command.specs.Jobs.{HasNamedFault, NameJob};
 ghost use Rattle.gc_command.specs.LineFiles.{AreNamed, MakeJob, MakeNoJob, are_whole, garbled_bytes, trailer_due};
 
-use crate::evaluated_files::read_label_files;
+use crate::evaluated_files::{are_regular, read_garbled_file, read_label_files};
 use crate::fault::Fault;
 use crate::job_list::words_of_line;
 use gc_circuit::Circuit;
@@ -98,4 +99,43 @@ pub fn job_of_files<'c, A: Allocator + Copy>(
             Ok(Job::bind_by_digest(alloc, circuit, digest, garbled, &labels)?)
         }
     }
+}
+
+/// Whether all files that a line names can be read ahead of their turn. Where there is no memory for the line's words,
+/// they can't.
+pub fn is_regular_line<A: Allocator + Copy, F: Files>(alloc: A, line: &str, files: &F) -> bool {
+    match words_of_line(alloc, line) {
+        Ok(words) => match words.split_first() {
+            Some((garbled, labels)) => are_regular(garbled, labels, files),
+            None => true,
+        },
+        Err(_) => false,
+    }
+}
+
+/// The job that a line names. Each of its files is read and checked before the next is opened. The caller ensures that
+/// `digest` is that of the circuit's canonical text, and that the line has a token.
+pub fn read_job<'c, A: Allocator + Copy, F: Files>(
+    alloc: A,
+    circuit: &'c Circuit<A>,
+    digest: &[u8; 32],
+    line: &str,
+    files: &mut F,
+) -> Result<Job<'c, A, A>, Fault>
+    requires digest { digest.now ≡ sha256 (canonical_text circuit.now) }
+    requires words { 0 < length (tokens line.now) }
+    ensures named { IfOk result
+        (NameJob (F.bytes files.old) circuit.now (tokens line.now)) }
+    ensures fault { IfErr result (HasNamedFault (F.bytes files.old)
+        (HasFailed (F.failures files.old) (F.failures files.new)) circuit.now (tokens line.now)) }
+    ensures counted { OnOk result (F.failures files.new ≡ F.failures files.old) }
+    ensures same { (n : List ℕ) → F.bytes files.new n ≡ F.bytes files.old n }
+{
+    let words = words_of_line(alloc, line)?;
+    let Some((garbled, labels)) = words.split_first() else {
+        unreachable!()
+    };
+    let garbled = read_garbled_file(alloc, garbled, files)?;
+    let labels = read_label_files(alloc, labels, files)?;
+    Ok(Job::bind_by_digest(alloc, circuit, digest, garbled, &labels)?)
 }

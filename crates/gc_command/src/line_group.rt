@@ -10,7 +10,7 @@ ghost use Rattle.gc_command.specs.Jobs.{HasLinesFault, NameJobs};
 ghost use Rattle.gc_command.specs.LineFiles.{AreReadInTurn, HasMakingFault, MakeJobs, trailer_due};
 
 use crate::fault::Fault;
-use crate::line_files::{LineFiles, job_of_files, read_line};
+use crate::line_files::{LineFiles, job_of_files, read_job, read_line};
 use crate::progress::{Progress, Stage};
 use gc_circuit::Circuit;
 use gc_disk::Files;
@@ -39,11 +39,40 @@ impl<'a, P: Progress> LineSteps<'a, P> {
     }
 }
 
-/// The jobs that at most eight lines name. The files of the lines are read in turn, up to the first fault of one that
-/// can't be read, or of a label file. Then their garbled files are digested side by side, and checked and bound in
-/// turn: so the fault is that of the first line that names no job. The caller ensures that this is the digest of the
-/// circuit's canonical text, and that each line has a token.
+/// The jobs that at most eight lines name. Of one line each file is checked before the next is opened. The caller
+/// ensures that this is the digest of the circuit's canonical text, and that each line has a token.
 pub fn read_group<'c, A: Allocator + Copy, F: Files, P: Progress>(
+    alloc: A,
+    circuit: &'c Circuit<A>,
+    digest: &[u8; 32],
+    lines: &[&str],
+    files: &mut F,
+    steps: &LineSteps<'_, P>,
+) -> Result<Vec<Job<'c, A, A>, A>, Fault>
+    requires count { length lines.now ≤ SIDE_BY_SIDE }
+    requires digest { digest.now ≡ sha256 (canonical_text circuit.now) }
+    requires words { All (λ words. 0 < length words) (map (λ line. tokens line.now) lines.now) }
+    ensures named { IfOk result (λ jobs. NameJobs (F.bytes files.old) circuit.now
+        (map (λ line. tokens line.now) lines.now) jobs.items) }
+    ensures fault { IfErr result (HasLinesFault (F.bytes files.old)
+        (HasFailed (F.failures files.old) (F.failures files.new)) circuit.now
+        (map (λ line. tokens line.now) lines.now)) }
+    ensures counted { OnOk result (F.failures files.new ≡ F.failures files.old) }
+    ensures same { (n : List ℕ) → F.bytes files.new n ≡ F.bytes files.old n }
+{
+    if let [line] = lines {
+        steps.begin(0);
+        let mut jobs = Vec::with_capacity(alloc, 1)?;
+        jobs.push(read_job(alloc, circuit, digest, line, files)?)?;
+        return Ok(jobs);
+    }
+    read_ahead(alloc, circuit, digest, lines, files, steps)
+}
+
+/// The jobs that at most eight lines name, as [`read_group`] returns them. The files of the lines are read in turn, up
+/// to the first fault of one that can't be read, or of a label file. Then their garbled files are digested side by
+/// side, and checked and bound in turn: so the fault is that of the first line that names no job.
+fn read_ahead<'c, A: Allocator + Copy, F: Files, P: Progress>(
     alloc: A,
     circuit: &'c Circuit<A>,
     digest: &[u8; 32],

@@ -10,6 +10,7 @@ ghost use Rattle.gc_command.specs.Jobs.{AreListed, HasListFault, HasLinesFault, 
 
 use crate::fault::Fault;
 use crate::job_list::listed_lines;
+use crate::line_files::is_regular_line;
 use crate::line_group::{LineSteps, read_group};
 use crate::progress::Progress;
 use gc_circuit::Circuit;
@@ -67,7 +68,7 @@ fn read_jobs<'c, A: Allocator + Copy, F: Files, P: Progress>(
     let mut jobs = Vec::with_capacity(alloc, lines.len())?;
     while jobs.len() < lines.len() {
         let (_, left) = lines.split_at(jobs.len());
-        let (group, _) = left.split_at(most.min(left.len()));
+        let (group, _) = left.split_at(lines_ahead(alloc, left, most, files));
         let steps = LineSteps {
             progress,
             before: jobs.len(),
@@ -89,4 +90,27 @@ fn lines_at_a_time<A: Allocator>(circuit: &Circuit<A>) -> usize
     let labels = u64::from(circuit.wires()) * (4 * LABEL as u64);
     let each = garbled_size(circuit, Version::Two).max(1);
     (labels / each).clamp(1, SIDE_BY_SIDE as u64) as usize
+}
+
+/// How many of the lines that are left are read before their garbled files are checked: `most`, or all if fewer are
+/// left, where these lines name regular files alone, and else one. The caller ensures that a line is left.
+fn lines_ahead<A: Allocator + Copy, F: Files>(
+    alloc: A,
+    left: &[&str],
+    most: usize,
+    files: &F,
+) -> usize
+    requires left { 0 < length left.now }
+    requires most { 1 ≤ most }
+    ensures least { 1 ≤ result }
+    ensures left { result ≤ length left.now }
+    ensures most { result ≤ most }
+{
+    let count = most.min(left.len());
+    let (group, _) = left.split_at(count);
+    if count == 1 || group.iter().all(|line| is_regular_line(alloc, line, files)) {
+        count
+    } else {
+        1
+    }
 }

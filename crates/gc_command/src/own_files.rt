@@ -13,10 +13,11 @@ ghost use Rattle.gc_command.specs.Run.{IsWantOfMemory};
 use crate::fault::Fault;
 use gc_circuit::Circuit;
 use gc_file::{
-    Garbled, LabelFile, MemSink, read_garbled, read_labels, write_garbled2_by_digest, write_labels,
+    Garbled, GarbledSource, LabelFile, MemSink, Trailer, Version, read_garbled, read_labels,
+    write_garbled_file, write_labels,
 };
 use gc_half::Garbling;
-use gc_label::Seed;
+use gc_label::{Seed, offset};
 use std::alloc::Allocator;
 
 /// The garbled file of the circuit's garbling under a seed, in version 2. The caller ensures that the digest is the
@@ -52,7 +53,14 @@ fn garbled_bytes<A: Allocator + Copy>(
     ensures fault { IfErr result IsWantOfMemory }
 {
     let mut sink = MemSink::new(alloc, None);
-    let written = write_garbled2_by_digest(&mut sink, circuit, digest, &garbling, seed);
+    let source = GarbledSource {
+        version: Version::Two,
+        circuit,
+        digest,
+        garbling: &garbling,
+        offset: offset(seed),
+    };
+    let written = write_garbled_file(&mut sink, &source, Trailer::Written);
     written.map_err(|_| Fault::Memory)?;
     Ok(sink.into_bytes())
 }

@@ -2,4 +2,3 @@ pub mod Cause
 pub mod SeenName
 pub mod Files
 pub mod FileFailures
-pub mod HashedFile

@@ -41,6 +41,10 @@ pub trait Files {
     // The files that have failed so far. Failures of sinks that were kept and of sources that were shut count too.
     ghost failures: { Self → FailedFiles };
 
+    /// Whether the file of this name is a regular file, which can be read ahead of its turn. Opening another may wait
+    /// for its writer, its bytes may have no end, and reading may take them from it.
+    fn is_regular(&self, name: &str) -> bool;
+
     /// The bytes of the file of this name. A file that can't be read has failed; where memory is refused, it has not.
     fn read<A: Allocator + Copy>(&mut self, alloc: A, name: &str) -> Result<Vec<u8, A>, FileError>
         ensures given { IfOk result (λ v. GivesFile (bytes self.old name.now) v.items) }

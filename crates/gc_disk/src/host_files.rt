@@ -94,6 +94,10 @@ impl<'r, R: rt::Files + Alloc> Files for HostFiles<'r, R> {
 
     ghost failures = { λ f. f.failures };
 
+    fn is_regular(&self, name: &str) -> bool {
+        is_regular(self.rt, name)
+    }
+
     fn read<A: Allocator + Copy>(&mut self, alloc: A, name: &str) -> Result<Vec<u8, A>, FileError> {
         self.trail.open(name);
         match read_file(self.rt, alloc, name) {
@@ -151,15 +155,20 @@ impl<'r, R: rt::Files + Alloc> Files for HostFiles<'r, R> {
 
 impl<'r, R: rt::Files + Alloc> Reread for HostFiles<'r, R> {
     fn read_again<A: Allocator + Copy>(&self, alloc: A, name: &str) -> Option<Vec<u8, A>> {
-        match fs::metadata(self.rt, name) {
-            Ok(found) if found.is_file() => read_file(self.rt, alloc, name).ok(),
-            _ => None,
+        if !self.is_regular(name) {
+            return None;
         }
+        read_file(self.rt, alloc, name).ok()
     }
 
     fn trail(&self) -> &Trail {
         &self.trail
     }
+}
+
+/// Whether the file of this name, or that to which it links, is a regular file.
+fn is_regular(rt: &impl rt::Files, name: &str) -> bool {
+    matches!(fs::metadata(rt, name), Ok(found) if found.is_file())
 }
 
 /// A sink for the file of this name, which is not `source`.

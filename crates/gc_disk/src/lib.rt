@@ -4,7 +4,6 @@
 mod cause;
 mod file_failures;
 mod files;
-mod hashed_file;
 mod host_files;
 mod noting;
 mod replacement;
@@ -15,7 +14,6 @@ mod trail;
 pub use cause::Cause;
 pub use file_failures::FileFailures;
 pub use files::{FileError, Files};
-pub use hashed_file::{HashedFile, read_and_hash};
 pub use host_files::{HostFiles, HostSink, read_all};
 pub use noting::Noting;
 pub use reread::Reread;

@@ -3,12 +3,12 @@
 ghost use Rattle.std.specs.Prelude.{◌≡◌, All, IfOk};
 ghost use Rattle.gc_job.specs.ActiveLabels.{gates_of};
 ghost use Rattle.gc_eval.specs.Seats.{IsSeatOf, IsNew, view, job_on};
-ghost use Rattle.gc_steps.specs.Walks.{IsWithin, batches_left};
+ghost use Rattle.gc_steps.specs.Walks.{IsWithin, groups_left};
 ghost use Rattle.gc_eval.specs.Workers.{AreWorkersOf, IsWorkerOf};
 
 use crate::seat::{EvalBoard, EvalSeat};
 use gc_circuit::Circuit;
-use gc_steps::{Batch, Walk};
+use gc_steps::{GateGroup, Walk};
 use gc_workers::Gatehouse;
 use std::alloc::{AllocError, Allocator};
 
@@ -24,24 +24,29 @@ pub(crate) struct Worker<B: Allocator, A: Allocator, C: Allocator> {
 
 impl<B: Allocator, A: Allocator, C: Allocator> Worker<B, A, C> {
     /// Steps gates at once, and notes what each was returned.
-    fn step<H: Gatehouse>(&mut self, board: &EvalBoard<'_, '_, B, A, C>, observer: &H, batch: Batch)
+    fn step<H: Gatehouse>(
+        &mut self,
+        board: &EvalBoard<'_, '_, B, A, C>,
+        observer: &H,
+        group: GateGroup,
+    )
         requires worker { IsWorkerOf board.now self.old }
-        requires batch { IsWithin (gates_of (job_on board.now)) batch }
+        requires group { IsWithin (gates_of (job_on board.now)) group }
         ensures worker { IsWorkerOf board.now self.new }
-        ensures left { batches_left self.new.walk ≡ batches_left self.old.walk }
+        ensures left { groups_left self.new.walk ≡ groups_left self.old.walk }
     {
-        batch.report_to(observer, self.number);
-        match batch {
-            Batch::One(a) => {
+        group.report_to(observer, self.number);
+        match group {
+            GateGroup::One(a) => {
                 let answer = board.step(&mut self.seat, a);
                 self.walk.note(a, answer);
             }
-            Batch::Two(a, b) => {
+            GateGroup::Two(a, b) => {
                 let answers = board.step_two(&mut self.seat, a, b);
                 self.walk.note(a, answers.0);
                 self.walk.note(b, answers.1);
             }
-            Batch::Four(a, b, c, d) => {
+            GateGroup::Four(a, b, c, d) => {
                 let answers = board.step_four(&mut self.seat, a, b, c, d);
                 self.walk.note(a, answers.0);
                 self.walk.note(b, answers.1);
@@ -63,8 +68,8 @@ impl<B: Allocator, A: Allocator, C: Allocator> Worker<B, A, C> {
         ensures { IsWorkerOf board.now self.new }
     {
         self.walk.begin(first, board.circuit().gates());
-        while let Some(batch) = self.walk.next(board.circuit()) {
-            self.step(board, observer, batch);
+        while let Some(group) = self.walk.next(board.circuit()) {
+            self.step(board, observer, group);
         }
         self.walk.has_learnt()
     }

@@ -4,16 +4,16 @@ ghost use Rattle.std.specs.Prelude.{◌≡◌, ◌<◌, ◌≤◌, All, IfOk};
 ghost use Rattle.gc_eval.specs.Seats.{IsSeatOf, job_on};
 ghost use Rattle.gc_job.specs.ActiveLabels.{gates_of};
 
-use crate::jobs::on_job;
+use crate::fixtures::on_job;
 use gc_circuit::show_value;
 use gc_eval::{Active, EvalBoard, EvalSeat};
+use gc_fixtures::circuits::{AND_INV_AND, CONSTANT_AND, FULL_ADDER};
+use gc_fixtures::compare::equal;
+use gc_fixtures::growths::{Answer as Run, Stray, plain_if, runs_refused};
+use gc_fixtures::refusing::Refusing;
 use gc_job::{EvalFault, Job, evaluate};
 use gc_label::Label;
-use gc_refusing::Refusing;
 use gc_steps::Answer;
-use gc_worked::circuits::{AND_INV_AND, CONSTANT_AND, FULL_ADDER};
-use gc_worked::compare::equal;
-use gc_worked::growths::{Answer as Run, Stray, plain_if, runs_refused};
 use gc_workers::OpenFault;
 use std::alloc::{Allocator, Global};
 use std::test::Fail;
@@ -174,7 +174,10 @@ fn closed<'j, 'c>(board: EvalBoard<'j, 'c>, seats: Vec<EvalSeat>) -> Result<Acti
 }
 
 /// A board with one seat.
-fn one_seat<'j, 'c>(alloc: Global, job: &'j Job<'c>) -> Result<(EvalBoard<'j, 'c>, EvalSeat), Fail>
+pub(crate) fn one_seat<'j, 'c>(
+    alloc: Global,
+    job: &'j Job<'c>,
+) -> Result<(EvalBoard<'j, 'c>, EvalSeat), Fail>
     ensures job { IfOk result (λ b. job_on b.0 ≡ job.now) }
     ensures seat { IfOk result (λ b. IsSeatOf b.0 b.1) }
 {

@@ -1,14 +1,14 @@
 //! Each growth refused in turn of the calls that bind jobs and evaluate them.
 
-use crate::jobs::on_job;
+use crate::fixtures::{answer_of_bits, on_job};
 use gc_circuit::Circuit;
 use gc_file::{Version, read_garbled};
-use gc_job::{BindFault, EvalFault, Job, evaluate};
-use gc_refusing::Refusing;
-use gc_worked::circuits::AND;
-use gc_worked::compare::equal;
-use gc_worked::files::{and_file, label_files};
-use gc_worked::growths::{Answer, plain_if, runs_refused};
+use gc_fixtures::circuits::AND;
+use gc_fixtures::compare::equal;
+use gc_fixtures::files::{and_file, label_files};
+use gc_fixtures::growths::{Answer, answer_of, runs_refused};
+use gc_fixtures::refusing::Refusing;
+use gc_job::{BindFault, Job, evaluate};
 use std::alloc::{Allocator, Global};
 use std::test::Fail;
 
@@ -23,29 +23,22 @@ fn binding(rt: HostRuntime) -> Result<(), Fail> {
         let Ok(garbled) = read_garbled(heap, &file) else {
             return Answer::Memory;
         };
-        match Job::bind(heap, &circuit, garbled, &labels) {
-            Ok(_) => Answer::Plain,
-            Err(BindFault::Memory) => Answer::Memory,
-            Err(_) => Answer::Other,
-        }
+        answer_of(
+            Job::bind(heap, &circuit, garbled, &labels),
+            BindFault::Memory,
+        )
     });
     equal(refused, Ok(5))
-}
-
-/// What came of an evaluation whose output bit is 1.
-fn shown(found: Result<Vec<bool, &Refusing<Global>>, EvalFault>) -> Answer {
-    match found {
-        Ok(bits) => plain_if(bits.as_slice() == [true].as_slice()),
-        Err(EvalFault::Memory) => Answer::Memory,
-        Err(_) => Answer::Other,
-    }
 }
 
 /// One growth for the labels, one for those of the output wires, and one for the output bits.
 #[test]
 fn evaluating(rt: HostRuntime) -> Result<(), Fail> {
     on_job(rt.alloc(), AND, &["1", "1"], |job| {
-        let refused = runs_refused(rt.alloc(), |heap| shown(evaluate(heap, job)));
+        let refused = runs_refused(
+            rt.alloc(),
+            |heap| answer_of_bits(evaluate(heap, job), &[true]),
+        );
         equal(refused, Ok(3))
     })
 }
@@ -60,7 +53,7 @@ fn decoded(alloc: Global, job: &Job) -> Result<(), Fail> {
         if job.circuit().output_wires() != 1 {
             return Answer::Other;
         }
-        shown(job.decode(heap, &[label]))
+        answer_of_bits(job.decode(heap, &[label]), &[true])
     });
     equal(refused, Ok(1))
 }

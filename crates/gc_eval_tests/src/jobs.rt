@@ -1,55 +1,118 @@
-//! Jobs of circuits, under the seed of 32 zero bytes.
+//! Tests of the evaluation of lists of jobs: the results are those of one thread, and the threads are really
+//! at work.
 
-use gc_circuit::Circuit;
-use gc_file::{Version, read_garbled};
-use gc_job::Job;
-use gc_worked::files::{label_files, write};
-use std::alloc::Global;
+use crate::fixtures::on_two_jobs;
+use gc_bank::{evaluate_jobs, one_circuit};
+use gc_fixtures::circuits::{and_chains, many_ands};
+use gc_fixtures::compare::equal;
+use gc_fixtures::counting::Counting;
+use gc_fixtures::meeting::Meeting;
+use gc_job::{EvalFault, Job, evaluate};
+use gc_rounds::MAX_JOBS;
+use gc_workers::Gatehouse;
+use std::alloc::{Allocator, Global};
+use std::sync::Wait;
 use std::test::Fail;
+use std::thread::Threads;
 
-/// The job of a circuit's file on these values.
-pub(crate) fn job_of<'c>(
-    alloc: Global,
-    circuit: &'c Circuit,
-    text: &str,
-    values: &[&str],
-) -> Result<Job<'c>, Fail> {
-    let file = write(alloc, text, Version::Two, None)?.bytes;
-    let labels = label_files(alloc, circuit, values)?;
-    Ok(Job::bind(alloc, circuit, read_garbled(alloc, &file)?, &labels)?)
+/// What the evaluation with this many workers returns; None where the jobs can't be evaluated together.
+pub(crate) fn evaluated<
+    B: Allocator + Copy + Send + Sync,
+    H: Gatehouse + Sync,
+    R: Threads + Wait + Sync,
+>(
+    rt: &R,
+    alloc: B,
+    jobs: &[Job],
+    workers: u32,
+    observer: &H,
+) -> Option<Result<Vec<Vec<bool, B>, B>, EvalFault>> {
+    if jobs.is_empty() || jobs.len() > MAX_JOBS || !one_circuit(jobs) {
+        return None;
+    }
+    Some(evaluate_jobs(rt, alloc, jobs, workers, observer))
 }
 
-/// Calls a test's function with the job of a circuit's file on these values. So no test has a circuit and a job of its
-/// own, which the proof drops on each path.
-pub(crate) fn on_job<F: Fn(&Job) -> Result<(), Fail>>(
-    alloc: Global,
-    text: &str,
-    values: &[&str],
-    test: F,
-) -> Result<(), Fail>
-    requires { F.IsAlwaysCallable test }
-{
-    let circuit = Circuit::read(alloc, text.as_bytes())?;
-    let job = job_of(alloc, &circuit, text, values)?;
-    test(&job)
+/// What the evaluation on one thread returns for each job, one after another.
+pub(crate) fn one_after_another(alloc: Global, jobs: &[Job]) -> Result<Vec<Vec<bool>>, EvalFault> {
+    let mut all = Vec::new(alloc);
+    for job in jobs {
+        all.push(evaluate(alloc, job)?)?;
+    }
+    Ok(all)
 }
 
-/// The job of a circuit's file on zeros. The circuit has at most three input values, of one width.
-fn job_on_zeros<'c>(alloc: Global, circuit: &'c Circuit, text: &str) -> Result<Job<'c>, Fail> {
-    let width = circuit.input_widths().first().copied().unwrap_or(0);
-    let zeros = "0".repeat(alloc, width as usize)?;
-    job_of(alloc, circuit, text, &[zeros.as_str(); 3])
+/// Whether two of this many workers meet as they evaluate jobs together, each by its own number, and the results are
+/// those of one thread.
+fn meet<R: AllocGlobal + Threads + Wait + Sync>(rt: &R, jobs: &[Job], workers: u32) -> bool {
+    let observer = Meeting::new();
+    let found = evaluated(rt, rt.alloc(), jobs, workers, &observer);
+    let is_right = found == Some(one_after_another(rt.alloc(), jobs));
+    observer.has_met() && observer.are_below(workers) && is_right
 }
 
-/// The same as [`on_job`], on zeros.
-pub(crate) fn on_zeros<F: Fn(&Job) -> Result<(), Fail>>(
-    alloc: Global,
-    text: &str,
-    test: F,
-) -> Result<(), Fail>
-    requires { F.IsAlwaysCallable test }
-{
-    let circuit = Circuit::read(alloc, text.as_bytes())?;
-    let job = job_on_zeros(alloc, &circuit, text)?;
-    test(&job)
+/// Whether this many workers report each gate of the jobs' circuit, once for each job where they evaluate jobs of their
+/// own, and each by its own number, and the results are those of one thread.
+fn is_each_reported<R: AllocGlobal + Threads + Wait + Sync>(
+    rt: &R,
+    jobs: &[Job],
+    workers: u32,
+) -> Result<bool, Fail> {
+    let alloc = rt.alloc();
+    let gates = jobs.first().map_or(0, |job| job.circuit().gates());
+    let observer = Counting::new(alloc, gates)?;
+    let found = evaluated(rt, alloc, jobs, workers, &observer);
+    let is_right = found == Some(one_after_another(alloc, jobs));
+    let each = jobs.len() as u64;
+    let most = if jobs.len() < workers as usize {
+        u64::MAX
+    } else {
+        each
+    };
+    Ok(is_right && observer.is_each_reported(each, most) && observer.are_below(workers))
+}
+
+/// Each gate of each job is reported by one worker, by two and by 64.
+fn are_reported<R: AllocGlobal + Threads + Wait + Sync>(rt: &R, jobs: &[Job]) -> Result<(), Fail> {
+    for workers in [1, 2, 64] {
+        equal(
+            (workers, is_each_reported(rt, jobs, workers)?),
+            (workers, true),
+        )?;
+    }
+    Ok(())
+}
+
+/// Each gate of each of two jobs is reported: by one worker, and by two that evaluate a job each, once; by 64 that
+/// share both at the banks, at least once, where AND gates are stepped four at once, and two.
+#[test]
+fn gates_of_jobs_are_reported(rt: HostRuntime) -> Result<(), Fail> {
+    let alloc = rt.alloc();
+    for (text, width) in [
+        (many_ands(alloc, 2000)?, 2000),
+        (and_chains(alloc, 64, 32)?, 64),
+    ] {
+        let zeros = "0".repeat(alloc, width)?;
+        on_two_jobs(
+            alloc,
+            text.as_str(),
+            zeros.as_str(),
+            |jobs| are_reported(&rt, jobs),
+        )?;
+    }
+    Ok(())
+}
+
+/// Two workers evaluate a job each, of two on 2,000 independent AND gates; two of three step the gates of both jobs,
+/// and two workers those of one job.
+#[test]
+fn two_job_workers_meet(rt: HostRuntime) -> Result<(), Fail> {
+    let alloc = rt.alloc();
+    let text = many_ands(alloc, 2000)?;
+    let zeros = "0".repeat(alloc, 2000)?;
+    on_two_jobs(alloc, text.as_str(), zeros.as_str(), |jobs| {
+        let first = jobs.split_at(jobs.len().min(1)).0;
+        let met = [meet(&rt, jobs, 2), meet(&rt, jobs, 3), meet(&rt, first, 2)];
+        equal((first.len(), met), (1, [true; 3]))
+    })
 }

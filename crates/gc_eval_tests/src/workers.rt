@@ -1,27 +1,26 @@
 //! Tests of evaluation on many threads: the result is that of one thread, and the threads are really at work.
 
-use crate::jobs::on_zeros;
+use crate::fixtures::{answer_of_bits, on_zeros};
 use gc_eval::evaluate_many;
-use gc_job::{EvalFault, Job, evaluate};
-use gc_worked::calling::Calling;
-use gc_worked::circuits::{FULL_ADDER, and_chains, many_ands, mixed_layers};
-use gc_worked::compare::equal;
-use gc_worked::counting::Counting;
-use gc_worked::growths::refusals_met;
-use gc_worked::meeting::Meeting;
+use gc_fixtures::calling::Calling;
+use gc_fixtures::circuits::{FULL_ADDER, and_chains, many_ands, mixed_layers};
+use gc_fixtures::compare::equal;
+use gc_fixtures::counting::Counting;
+use gc_fixtures::growths::{Met, refusals_met};
+use gc_fixtures::meeting::Meeting;
+use gc_job::{Job, evaluate};
 use gc_workers::Open;
 use std::alloc::Global;
 use std::sync::Wait;
-use std::sync::atomic::{AtomicU64, Ordering};
 use std::test::Fail;
 use std::thread::Threads;
 
 /// The workers 0 and 1 meet as they evaluate a circuit, and return what one thread does.
-fn meet<R: Threads + Wait + Sync>(rt: &R, alloc: Global, text: &str) -> Result<(), Fail> {
-    on_zeros(alloc, text, |job| {
+fn meet<R: AllocGlobal + Threads + Wait + Sync>(rt: &R, text: &str) -> Result<(), Fail> {
+    on_zeros(rt.alloc(), text, |job| {
         let observer = Meeting::new();
-        let found = evaluate_many(rt, alloc, job, 2, &observer);
-        equal(found, evaluate(alloc, job))?;
+        let found = evaluate_many(rt, rt.alloc(), job, 2, &observer);
+        equal(found, evaluate(rt.alloc(), job))?;
         equal((observer.has_met(), observer.are_below(2)), (true, true))
     })
 }
@@ -29,13 +28,13 @@ fn meet<R: Threads + Wait + Sync>(rt: &R, alloc: Global, text: &str) -> Result<(
 /// Two workers evaluate 2,000 independent AND gates.
 #[test]
 fn two_evaluators_meet(rt: HostRuntime) -> Result<(), Fail> {
-    meet(&rt, rt.alloc(), many_ands(rt.alloc(), 2000)?.as_str())
+    meet(&rt, many_ands(rt.alloc(), 2000)?.as_str())
 }
 
 /// Forty chains, whose layers are of one gate, are evaluated at a board.
 #[test]
 fn two_evaluators_meet_at_a_board(rt: HostRuntime) -> Result<(), Fail> {
-    meet(&rt, rt.alloc(), and_chains(rt.alloc(), 40, 50)?.as_str())
+    meet(&rt, and_chains(rt.alloc(), 40, 50)?.as_str())
 }
 
 /// 64 groups of chains of eight AND gates, four chains in each, of which the gates take turns in the file: four gates
@@ -51,17 +50,19 @@ fn chains_by_fours(alloc: Global) -> Result<String, Fail> {
 }
 
 /// One worker, two and 64 report each gate of a circuit, none more often than this, each by its own number.
-fn are_reported<R: Threads + Wait + Sync>(
+fn are_reported<R: AllocGlobal + Threads + Wait + Sync>(
     rt: &R,
-    alloc: Global,
     text: &str,
     most: u64,
 ) -> Result<(), Fail> {
-    on_zeros(alloc, text, |job| {
+    on_zeros(rt.alloc(), text, |job| {
         for workers in [1, 2, 64] {
-            let observer = Counting::new(alloc, job.circuit().gates())?;
-            evaluate_many(rt, alloc, job, workers, &observer)?;
-            let found = (observer.is_each_reported(most), observer.are_below(workers));
+            let observer = Counting::new(rt.alloc(), job.circuit().gates())?;
+            evaluate_many(rt, rt.alloc(), job, workers, &observer)?;
+            let found = (
+                observer.is_each_reported(1, most),
+                observer.are_below(workers),
+            );
             equal((workers, found), (workers, (true, true)))?;
         }
         Ok(())
@@ -73,10 +74,10 @@ fn are_reported<R: Threads + Wait + Sync>(
 #[test]
 fn each_gate_is_reported(rt: HostRuntime) -> Result<(), Fail> {
     let alloc = rt.alloc();
-    are_reported(&rt, alloc, FULL_ADDER, 1)?;
-    are_reported(&rt, alloc, mixed_layers(alloc, 1100)?.as_str(), 1)?;
-    are_reported(&rt, alloc, and_chains(alloc, 64, 32)?.as_str(), u64::MAX)?;
-    are_reported(&rt, alloc, chains_by_fours(alloc)?.as_str(), u64::MAX)
+    are_reported(&rt, FULL_ADDER, 1)?;
+    are_reported(&rt, mixed_layers(alloc, 1100)?.as_str(), 1)?;
+    are_reported(&rt, and_chains(alloc, 64, 32)?.as_str(), u64::MAX)?;
+    are_reported(&rt, chains_by_fours(alloc)?.as_str(), u64::MAX)
 }
 
 /// On one thread, by layers, and at a board.
@@ -95,49 +96,17 @@ fn worker_0_is_the_calling_thread(rt: HostRuntime) -> Result<(), Fail> {
     Ok(())
 }
 
-/// Of the runs in which one growth is refused, by the growths in turn.
-#[derive(Clone, Copy, PartialEq, Eq, Debug)]
-struct Refused {
-    /// How many there are,
-    runs: u64,
-    /// how many of them return the bits all the same,
-    answered: u64,
-    /// and the number of the first growth without which there is none.
-    needed: u64,
-}
-
-/// The runs of this many workers that meet a refused growth. Each returns the bits of one thread, or the fault for
-/// memory.
-fn refused_runs<R: Threads + Wait + Sync>(
+/// The runs of this many workers that meet a refused growth.
+fn refused_runs<R: AllocGlobal + Threads + Wait + Sync>(
     rt: &R,
-    alloc: Global,
     job: &Job,
     workers: u32,
-) -> Result<Refused, Fail> {
-    let plain = evaluate(alloc, job)?;
-    let answered = AtomicU64::new(0);
-    let needed = AtomicU64::new(u64::MAX);
-    let refused = refusals_met(alloc, |heap| {
-        Some(match evaluate_many(rt, heap, job, workers, &Open) {
-            Ok(bits) => {
-                answered.fetch_add(heap.refused(), Ordering::SeqCst);
-                bits.as_slice() == plain.as_slice()
-            }
-            Err(fault) => {
-                // Nothing is allocated after the one that is refused.
-                needed.fetch_min(heap.growths(), Ordering::SeqCst);
-                fault == EvalFault::Memory && heap.refused() == 1
-            }
-        })
-    });
-    match refused {
-        Some(runs) => Ok(Refused {
-            runs,
-            answered: answered.load(Ordering::SeqCst),
-            needed: needed.load(Ordering::SeqCst),
-        }),
-        None => Err(Fail::new("neither the answer nor the fault for memory")),
-    }
+) -> Result<Met, Fail> {
+    let plain = evaluate(rt.alloc(), job)?;
+    let met = refusals_met(rt.alloc(), |heap| {
+        answer_of_bits(evaluate_many(rt, heap, job, workers, &Open), &plain)
+    })?;
+    Ok(met)
 }
 
 /// Choosing the way allocates twice where there are several threads; the board six times, the workers once each and
@@ -148,14 +117,18 @@ fn refused_runs<R: Threads + Wait + Sync>(
 fn each_growth_refused(rt: HostRuntime) -> Result<(), Fail> {
     let alloc = rt.alloc();
     on_zeros(alloc, FULL_ADDER, |job| {
-        let refused = refused_runs(&rt, alloc, job, 1)?;
-        equal((refused.runs, refused.answered, refused.needed), (3, 0, 1))
+        let refused = refused_runs(&rt, job, 1)?;
+        equal((refused.runs, refused.plain), (3, 0))
     })?;
     on_zeros(alloc, and_chains(alloc, 64, 16)?.as_str(), |job| {
-        for (workers, runs, answered) in [(2, 14, 12), (64, 76, 74)] {
-            let refused = refused_runs(&rt, alloc, job, workers)?;
-            let found = (refused.runs, refused.answered, refused.needed);
-            equal(found, (runs, answered, answered + 1))?;
+        for (workers, runs, plain) in [(2, 14, 12), (64, 76, 74)] {
+            let before_fault = plain;
+            let wanted = Met {
+                runs,
+                plain,
+                before_fault,
+            };
+            equal(refused_runs(&rt, job, workers)?, wanted)?;
         }
         Ok(())
     })
@@ -170,8 +143,8 @@ fn each_growth_refused(rt: HostRuntime) -> Result<(), Fail> {
 fn each_growth_of_layers_refused(rt: HostRuntime) -> Result<(), Fail> {
     let text = many_ands(rt.alloc(), 1100)?;
     on_zeros(rt.alloc(), text.as_str(), |job| {
-        let refused = refused_runs(&rt, rt.alloc(), job, 2)?;
-        let is_right = refused.runs >= 15 && refused.needed >= 15;
+        let refused = refused_runs(&rt, job, 2)?;
+        let is_right = refused.runs >= 15 && refused.before_fault >= 14;
         equal((refused, is_right), (refused, true))
     })
 }

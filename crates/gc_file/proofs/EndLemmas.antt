@@ -1,6 +1,5 @@
 -- The ends of files on their way to a sink.
 use Rattle.gc_file.proofs.WriterNames.{◌≡◌, ℕ, ◌^◌, ◌<◌, List, [], ◌++◌, length, length-append, append_assoc, append-nil, Option, Result, Ok, Err, sym, ap, ◌∙◌, arith, take-append_seam, err_from_is_err_and, IsErrAnd, HoldsMessage, sha256, FileWriter, WriteFault, IsUnderWay, IsStopped, IsAfter, Proceeds, Ends, IsWritten}
-use Rattle.std.specs.Prelude.{IfErr}
 use Rattle.gc_lanes.specs.declared.hasher.LongSha256.{LongSha256}
 use Rattle.gc_file.proofs.WritingLemmas.{IsStopped-more}
 
@@ -64,32 +63,13 @@ IsWritten-stopped {sent} small s =
     let same : sent ≡ length s.beginning = omega (arith, s.count, size) in
     (omega (arith, s.not_all, size), rw (same, ← s.whole, take-append_seam) s.taken)
 
--- The sink stopped in bytes after those that were written, before the rest.
-pub stopped-exit : {T O : Type 0} {Saw : O → List ℕ → Type 0} {w w' : FileWriter O}
-    {before old new : Option (List ℕ)} {first xs file : List ℕ} {e : WriteFault}
-    (r : Result T WriteFault) (rest : List ℕ) → IsErrAnd r (λ y. y ≡ e)
-    → IsUnderWay Saw w old before first → first ++ xs ++ rest ≡ file
-    → Proceeds Saw w w' old new (Err e) xs
-    → IfErr r (λ fault. IsStopped before new file fault.sent)
-stopped-exit {before = before} {first = first} {xs = xs} r rest is begun whole stopped =
-    let p = err_from_is_err_and r is in
-    rw (p.1, p.2, ← whole)
-    (IsStopped-more rest (stopped.goes before first begun))
-
--- What was left of a file was written.
-pub IsWritten-rest : {O : Type 0} {Saw : O → List ℕ → Type 0} {w : FileWriter O}
-    {before old new : Option (List ℕ)} {first file : List ℕ} {last : List ℕ → List ℕ}
-    (r : Result ℕ WriteFault) → length file < 2 ^ 64 → IsUnderWay Saw w old before first
-    → first ++ last first ≡ file → Ends Saw w old new r last → IsWritten file r before new
-IsWritten-rest {before} {first} (Ok n) small begun whole ended = rw (← whole)
-    (let e = ended.goes before first begun in (omega (arith, e.1, ap length whole), e.0))
-IsWritten-rest {before} {first} (Err fault) small begun whole ended =
-    IsWritten-stopped small (rw (← whole) (ended.goes before first begun))
-
 -- The file was written from its first byte to its last.
 pub IsWritten-whole : {O : Type 0} {Saw : O → List ℕ → Type 0} {w : FileWriter O}
     {old new : Option (List ℕ)} {file : List ℕ} {last : List ℕ → List ℕ} (r : Result ℕ WriteFault)
     → length file < 2 ^ 64
     → ((now : Option (List ℕ)) → IsUnderWay Saw w now now []) → last [] ≡ file
     → Ends Saw w old new r last → IsWritten file r old new
-IsWritten-whole {old} r small begun whole ended = IsWritten-rest r small (begun old) whole ended
+IsWritten-whole {old} (Ok n) small begun whole ended = rw (← whole)
+    (let e = ended.goes old [] (begun old) in (omega (arith, e.1, ap length whole), e.0))
+IsWritten-whole {old} (Err fault) small begun whole ended =
+    IsWritten-stopped small (rw (← whole) (ended.goes old [] (begun old)))

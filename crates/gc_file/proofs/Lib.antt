@@ -12,7 +12,6 @@ pub mod ListLemmas
 pub mod ByteLemmas
 pub mod LabelBytesLemmas
 pub mod SizeLemmas
-pub mod BegunLemmas
 pub mod DealLemmas
 pub mod WrittenFiles
 pub mod PieceLemmas

@@ -1,5 +1,5 @@
 -- How many bytes the files have.
-use Rattle.gc_file.proofs.WriterNames.{◌≡◌, ℕ, ◌+◌, ◌*◌, ◌^◌, ◌<◌, ◌≤◌, List, [], ◌∷◌, ◌++◌, length, length-append, append_assoc, append-nil, flat_map, refl, sym, ap, arith, sha256, length-sha256, Netlist, canonical_text, GarblingParts, One, Two, EntryPair, bytes_for, GarbledParts, magic, body, row_bytes, entry_bytes, garbled_file, parts_of, length-number_bytes, length-packed, front, IsSmall, parts_one}
+use Rattle.gc_file.proofs.WriterNames.{◌≡◌, ℕ, ◌+◌, ◌*◌, ◌^◌, ◌<◌, ◌≤◌, List, [], ◌∷◌, length, length-append, flat_map, refl, ap, arith, sha256, length-sha256, Netlist, canonical_text, GarblingParts, One, Two, EntryPair, bytes_for, GarbledParts, magic, body, row_bytes, entry_bytes, garbled_file, parts_of, length-number_bytes, length-packed, IsSmall}
 use Rattle.gc_file.specs.declared.parts.Version.{Version}
 use Rattle.gc_file.proofs.ByteLemmas.{length-decode_bits, length-entry_pairs}
 use Rattle.gc_netlist.specs.Circuit.{IsLawful, and_count, output_wires}
@@ -47,19 +47,6 @@ garbled_file-size version c g entries small few = omega (
   small.rows,
   small.outputs,
 )
-
--- A garbled file is what comes before its entries, its entries and its trailer.
-pub garbled_file-front : (p : GarbledParts)
-    → front p ++ (flat_map entry_bytes p.entries ++ sha256 (body p)) ≡ garbled_file p
-unfolding garbled_file
-garbled_file-front p =
-    sym (append_assoc (front p) (flat_map entry_bytes p.entries) (sha256 (body p)))
-
--- One without entries ends after its decode bits.
-pub garbled_file-one : (c : Netlist) (g : GarblingParts) →
-    front (parts_one c g) ++ sha256 (front (parts_one c g)) ≡ garbled_file (parts_one c g)
-unfolding garbled_file
-garbled_file-one c g = ap (λ l. l ++ sha256 l) (sym (append-nil (front (parts_one c g))))
 
 -- The entry pairs of a file of a version are as many as it has.
 length-version_entries : (version : Version) (offset : ℕ) (g : GarblingParts) →

@@ -27,7 +27,7 @@ pub use Rattle.gc_label.specs.Seed.{offset_of, input_label_of}
 pub use Rattle.gc_netlist.specs.Canon.{canonical_text}
 pub use Rattle.gc_netlist.specs.Circuit.{Netlist, IsLawful, is_and}
 pub use Rattle.gc_file.specs.Writing.{IsUnderWay, IsStopped, IsAfter, Proceeds, Ends, Unseen}
-pub use Rattle.gc_file.specs.Written.{entry_pair_of, entry_pairs_from, entry_pairs_of, IsWritten, front, IsSmall, parts_one, parts_two, parts_two_with}
+pub use Rattle.gc_file.specs.Written.{entry_pair_of, entry_pairs_from, entry_pairs_of, IsWritten, front, IsSmall}
 pub use Rattle.gc_file.specs.declared.writer.FileWriter.{FileWriter}
 pub use Rattle.gc_file.specs.declared.writer.WriteFault.{WriteFault}
 pub use Rattle.sha2.proofs.Facts256.{length-sha256}

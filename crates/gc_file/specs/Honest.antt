@@ -6,7 +6,9 @@ use Rattle.gc_half.specs.Garbling.{GarblingParts, FitsCircuit}
 use Rattle.gc_file.specs.declared.parts.Version.{Version}
 use Rattle.gc_file.specs.declared.parts.Version.TheVariants.{One, Two}
 use Rattle.gc_file.specs.declared.parts.EntryPair.{EntryPair}
-use Rattle.gc_file.specs.GarbledFile.{GarbledParts, parts_of, garbled_file}
+use Rattle.gc_file.specs.declared.write.Trailer.{Trailer}
+use Rattle.gc_file.specs.declared.write.Trailer.TheVariants.{Written, Omitted}
+use Rattle.gc_file.specs.GarbledFile.{GarbledParts, parts_of, body, garbled_file}
 use Rattle.gc_file.specs.Written.{entry_pairs_of}
 
 -- The entry pairs of a garbling's file of a version: version 1 has none.
@@ -21,6 +23,11 @@ honest_parts_with version c g offset = parts_of version c g (version_entries ver
 -- and under a seed.
 abbrev pub honest_parts : Version → Netlist → GarblingParts → List ℕ → GarbledParts
 honest_parts version c g seed = honest_parts_with version c g (offset_of seed)
+
+-- The bytes of a garbled file that are written: with its trailer, or without.
+abbrev pub written_part : Trailer → GarbledParts → List ℕ
+written_part Written p = garbled_file p
+written_part Omitted p = body p
 
 -- The number is that of the bytes of the garbled file of a version, for any garbling with the circuit's counts and any
 -- offset, so for the circuit's garbling under any seed.

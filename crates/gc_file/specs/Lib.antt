@@ -13,7 +13,6 @@ pub mod MemSource
 pub mod InSource
 pub mod Writing
 pub mod Written
-pub mod BegunFile
 pub mod WrittenLaw
 pub mod Fault
 pub mod FileFault

@@ -2,6 +2,7 @@
 use Rattle.std.specs.Prelude.{◌≡◌, ◌≢◌, ℕ, ◌⊎◌, ◌+◌, List, ◌++◌, length, Option, Result, Ok, Err, codes}
 use Rattle.std.specs.Fmt.{decimal}
 use Rattle.std.specs.Io.KnownBytes.{Consumes, IsAtEnd}
+use Rattle.gc_netlist.specs.Names.{fault_name}
 use Rattle.gc_file.specs.declared.fault.FileFault.TheVariants.{Memory}
 use Rattle.gc_file.specs.declared.take.TakeFault.{TakeFault}
 use Rattle.gc_file.specs.declared.take.TakeFault.TheVariants.{File, ReadFault}
@@ -15,13 +16,9 @@ abbrev pub code_of : TakeFault → ℕ
 code_of (File fault) = faults.code_of fault
 code_of (ReadFault got) = 38
 
-abbrev pub name_of : TakeFault → List ℕ
-name_of (File fault) = faults.name_of fault
-name_of (ReadFault got) = codes "ReadFault"
-
 -- the name and, of a source that failed, how many bytes it had given
 abbrev pub text_of : TakeFault → List ℕ
-text_of (File fault) = faults.name_of fault
+text_of (File fault) = fault_name (faults.code_of fault)
 text_of (ReadFault got) = codes "ReadFault after " ++ decimal got ++ codes " bytes"
 
 -- What is returned of the bytes that a source gave, with the bytes that it has left. A fault of the file is one that no

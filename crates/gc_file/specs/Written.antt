@@ -44,13 +44,9 @@ entry_pairs_of offset g = entry_pairs_from offset g 0 g.outputs
 abbrev pub parts_one : Netlist → GarblingParts → GarbledParts
 parts_one c g = parts_of One c g []
 
--- in version 2, with the offset of the garbling,
-abbrev pub parts_two_with : Netlist → GarblingParts → ℕ → GarbledParts
-parts_two_with c g offset = parts_of Two c g (entry_pairs_of offset g)
-
--- and under its seed.
+-- and in version 2, under its seed.
 abbrev pub parts_two : Netlist → GarblingParts → List ℕ → GarbledParts
-parts_two c g seed = parts_two_with c g (offset_of seed)
+parts_two c g seed = parts_of Two c g (entry_pairs_of (offset_of seed) g)
 
 -- The part of a garbled file before its entries.
 abbrev pub front : GarbledParts → List ℕ

@@ -1,8 +1,10 @@
 //! The faults of files.
 
 ghost use Rattle.std.specs.Prelude.{◌≡◌};
-ghost use Rattle.gc_file.specs.Fault.{code_of, name_of};
+ghost use Rattle.gc_netlist.specs.Names.{fault_name};
+ghost use Rattle.gc_file.specs.Fault.{code_of};
 
+use gc_netlist::fault_name;
 use std::alloc::{AllocError, AllocFailed};
 use std::error::Error;
 use std::fmt;
@@ -45,17 +47,9 @@ impl FileFault {
 
     /// The name of the fault, as users see it.
     pub fn name(self) -> &'static str
-        ensures { result.now ≡ name_of self }
+        ensures { result.now ≡ fault_name (code_of self) }
     {
-        match self {
-            FileFault::BadMagic => "BadMagic",
-            FileFault::Truncated => "Truncated",
-            FileFault::Trailing => "Trailing",
-            FileFault::CountTooLarge => "CountTooLarge",
-            FileFault::SpareBits => "SpareBits",
-            FileFault::BadTrailer => "BadTrailer",
-            FileFault::Memory => "Memory",
-        }
+        fault_name(self.code())
     }
 }
 
@@ -63,7 +57,7 @@ impl FileFault {
 impl fmt::Display for FileFault {
     ghost use Rattle.std.specs.Prelude.{Some};
 
-    ghost output = { λ fault. Some (name_of fault) };
+    ghost output = { λ fault. Some (fault_name (code_of fault)) };
 
     fn fmt<W: fmt::Write>(&self, f: &mut fmt::Formatter<W>) -> fmt::Result {
         f.write_str(self.name())

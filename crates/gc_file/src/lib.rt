@@ -9,7 +9,6 @@
 //! say that all bytes are exactly one file or have exactly one first fault.
 #![tactic(auto)]
 
-mod begun;
 mod body;
 mod deal;
 mod failures;
@@ -32,7 +31,6 @@ mod write;
 mod writer;
 mod written_law;
 
-pub use begun::{BegunFile, begin_garbled};
 pub use deal::{first_wire, write_labels};
 pub use failures::FailureCount;
 pub use fault::FileFault;
@@ -47,9 +45,6 @@ pub use sink::{MemSink, OutSink, Sink, SinkFault};
 pub use source::{InSource, MemSource, Source};
 pub use spell::label_header;
 pub use take::{TakeFault, read_garbled_from};
-pub use write::{
-    write_before_trailer, write_garbled, write_garbled_by_digest, write_garbled2,
-    write_garbled2_by_digest, write_garbled2_with_offset,
-};
+pub use write::{GarbledSource, Trailer, write_garbled, write_garbled_file, write_garbled2};
 pub use writer::WriteFault;
 pub use written_law::law_written_files;

@@ -1,12 +1,14 @@
 //! Taking a garbled file from a source.
 
 ghost use Rattle.std.specs.Prelude.{◌≡◌, ℕ, List, Some};
-ghost use Rattle.gc_file.specs.Taking.{code_of, name_of, text_of, IsTaken, IsAnswerOfAll, CountsReadFault};
+ghost use Rattle.gc_netlist.specs.Names.{fault_name};
+ghost use Rattle.gc_file.specs.Taking.{code_of, text_of, IsTaken, IsAnswerOfAll, CountsReadFault};
 
 use crate::fault::FileFault;
 use crate::garbled::Garbled;
 use crate::reader::GarbledReader;
 use crate::source::Source;
+use gc_netlist::fault_name;
 use std::alloc::Allocator;
 use std::error::Error;
 use std::fmt;
@@ -36,12 +38,9 @@ impl TakeFault {
 
     /// The name of the fault, as users see it.
     pub fn name(self) -> &'static str
-        ensures { result.now ≡ name_of self }
+        ensures { result.now ≡ fault_name (code_of self) }
     {
-        match self {
-            TakeFault::File(fault) => fault.name(),
-            TakeFault::ReadFault { .. } => "ReadFault",
-        }
+        fault_name(self.code())
     }
 }
 

@@ -7,9 +7,9 @@ ghost use Rattle.gc_half.specs.Garbling.{decode_bits_of, FitsCircuit};
 ghost use Rattle.gc_file.specs.Counted.{CountsFailure};
 ghost use Rattle.gc_file.specs.DecodeBits.{packed};
 ghost use Rattle.gc_file.specs.GarbledFile.{row_bytes, entry_bytes, body, garbled_file, parts_of};
-ghost use Rattle.gc_file.specs.Honest.{honest_parts_with, version_entries};
+ghost use Rattle.gc_file.specs.Honest.{honest_parts_with, version_entries, written_part};
 ghost use Rattle.gc_file.specs.Writing.{Proceeds};
-ghost use Rattle.gc_file.specs.Written.{IsWritten, entry_pairs_from, entry_pairs_of, front, IsSmall, parts_one, parts_two, parts_two_with};
+ghost use Rattle.gc_file.specs.Written.{IsWritten, entry_pairs_from, entry_pairs_of, front, IsSmall, parts_one, parts_two};
 
 use crate::parts::{EntryPair, Version};
 use crate::sink::Sink;
@@ -22,36 +22,74 @@ use gc_lanes::LongSha256;
 use sha2::Digest;
 use std::alloc::Allocator;
 
+/// What a garbled file is written of.
+#[derive(Drop)]
+pub struct GarbledSource<'a, A: Allocator, B: Allocator> {
+    /// The version of the file.
+    pub version: Version,
+    /// The circuit.
+    pub circuit: &'a Circuit<A>,
+    /// Its digest, from [`Circuit::digest`].
+    pub digest: &'a [u8; 32],
+    /// A garbling that fits the circuit. Its AND gates are numbered from 0 on: this is not checked.
+    pub garbling: &'a Garbling<B>,
+    /// The offset of the garbling, for the entries of version 2.
+    pub offset: Offset,
+}
+
+/// Whether a garbled file is written with its trailer.
+#[derive(Clone, Copy, PartialEq, Eq, Debug)]
+pub enum Trailer {
+    /// The file is written to its end.
+    Written,
+    /// The caller adds the trailer: the SHA-256 of the bytes that are written.
+    Omitted,
+}
+
 impl<O: Observer> FileWriter<O> {
+    /// Writes all but the trailer.
+    fn write_body<S: Sink, A: Allocator, B: Allocator>(
+        &mut self,
+        sink: &mut S,
+        of: &GarbledSource<'_, A, B>,
+    ) -> Result<(), WriteFault>
+        requires digest { of.now.digest.now ≡ sha256 (canonical_text of.now.circuit.now) }
+        requires fits { FitsCircuit of.now.circuit.now of.now.garbling.now }
+        ensures bytes { Proceeds O.saw self.old self.new
+            (S.taken sink.old) (S.taken sink.new) result
+            (body (honest_parts_with of.now.version of.now.circuit.now of.now.garbling.now
+            of.now.offset)) }
+        ensures small { IsSmall of.now.garbling.now }
+        ensures counted { CountsFailure result (S.failures sink.old) (S.failures sink.new) }
+    {
+        self.write_front(sink, of)?;
+        self.write_version_entries(sink, of)
+    }
+
     /// Writes the part before the entries: the header, the row pairs and the decode bits.
     fn write_front<S: Sink, A: Allocator, B: Allocator>(
         &mut self,
         sink: &mut S,
-        version: Version,
-        circuit: &Circuit<A>,
-        digest: &[u8; 32],
-        garbling: &Garbling<B>,
+        of: &GarbledSource<'_, A, B>,
     ) -> Result<(), WriteFault>
-        requires digest { digest.now ≡ sha256 (canonical_text circuit.now) }
-        requires fits { FitsCircuit circuit.now garbling.now }
+        requires digest { of.now.digest.now ≡ sha256 (canonical_text of.now.circuit.now) }
+        requires fits { FitsCircuit of.now.circuit.now of.now.garbling.now }
         ensures bytes { Proceeds O.saw self.old self.new
             (S.taken sink.old) (S.taken sink.new) result
-            (front (parts_of version circuit.now garbling.now [])) }
-        ensures small { IsSmall garbling.now }
+            (front (parts_of of.now.version of.now.circuit.now of.now.garbling.now [])) }
+        ensures small { IsSmall of.now.garbling.now }
         ensures counted { CountsFailure result (S.failures sink.old) (S.failures sink.new) }
     {
-        let header = header(version, *digest, circuit.and_count(), garbling.outputs());
+        let garbling = of.garbling;
+        let and_gates = of.circuit.and_count();
+        let header = header(of.version, *of.digest, and_gates, garbling.outputs());
         self.write(sink, header.as_slice())?;
         self.write_rows(sink, garbling.rows())?;
         self.write_decode_bits(sink, garbling)
     }
 
     /// Writes the row pairs.
-    pub(crate) fn write_rows<S: Sink>(
-        &mut self,
-        sink: &mut S,
-        rows: &[RowPair],
-    ) -> Result<(), WriteFault>
+    fn write_rows<S: Sink>(&mut self, sink: &mut S, rows: &[RowPair]) -> Result<(), WriteFault>
         ensures bytes { Proceeds O.saw self.old self.new
             (S.taken sink.old) (S.taken sink.new) result (flat_map row_bytes rows.now) }
         ensures counted { CountsFailure result (S.failures sink.old) (S.failures sink.new) }
@@ -63,7 +101,7 @@ impl<O: Observer> FileWriter<O> {
     }
 
     /// Writes the decode bits, eight to a byte.
-    pub(crate) fn write_decode_bits<S: Sink, A: Allocator>(
+    fn write_decode_bits<S: Sink, A: Allocator>(
         &mut self,
         sink: &mut S,
         garbling: &Garbling<A>,
@@ -79,23 +117,21 @@ impl<O: Observer> FileWriter<O> {
     }
 
     /// Writes the entry pairs of a version, which are none in version 1.
-    pub(crate) fn write_version_entries<S: Sink, A: Allocator, B: Allocator>(
+    fn write_version_entries<S: Sink, A: Allocator, B: Allocator>(
         &mut self,
         sink: &mut S,
-        version: Version,
-        circuit: &Circuit<A>,
-        garbling: &Garbling<B>,
-        offset: Offset,
+        of: &GarbledSource<'_, A, B>,
     ) -> Result<(), WriteFault>
-        requires { FitsCircuit circuit.now garbling.now }
+        requires { FitsCircuit of.now.circuit.now of.now.garbling.now }
         ensures bytes { Proceeds O.saw self.old self.new
             (S.taken sink.old) (S.taken sink.new) result
-            (flat_map entry_bytes (version_entries version offset garbling.now)) }
+            (flat_map entry_bytes
+            (version_entries of.now.version of.now.offset of.now.garbling.now)) }
         ensures counted { CountsFailure result (S.failures sink.old) (S.failures sink.new) }
     {
-        match version {
+        match of.version {
             Version::One => Ok(()),
-            Version::Two => self.write_entries(sink, circuit, garbling, offset),
+            Version::Two => self.write_entries(sink, of),
         }
     }
 
@@ -103,40 +139,37 @@ impl<O: Observer> FileWriter<O> {
     fn write_entries<S: Sink, A: Allocator, B: Allocator>(
         &mut self,
         sink: &mut S,
-        circuit: &Circuit<A>,
-        garbling: &Garbling<B>,
-        offset: Offset,
+        of: &GarbledSource<'_, A, B>,
     ) -> Result<(), WriteFault>
-        requires { FitsCircuit circuit.now garbling.now }
+        requires { FitsCircuit of.now.circuit.now of.now.garbling.now }
         ensures bytes { Proceeds O.saw self.old self.new
             (S.taken sink.old) (S.taken sink.new) result
-            (flat_map entry_bytes (entry_pairs_of offset garbling.now)) }
+            (flat_map entry_bytes (entry_pairs_of of.now.offset of.now.garbling.now)) }
         ensures counted { CountsFailure result (S.failures sink.old) (S.failures sink.new) }
     {
-        let fours = garbling.outputs() / 4;
-        self.write_fours(sink, circuit, garbling, offset, fours)?;
-        self.write_last_entries(sink, circuit, garbling, offset, 4 * fours)
+        let fours = of.garbling.outputs() / 4;
+        self.write_fours(sink, of, fours)?;
+        self.write_last_entries(sink, of, 4 * fours)
     }
 
     /// Writes the entry pairs of the first output wires, of as many fours of them as given.
     fn write_fours<S: Sink, A: Allocator, B: Allocator>(
         &mut self,
         sink: &mut S,
-        circuit: &Circuit<A>,
-        garbling: &Garbling<B>,
-        offset: Offset,
+        of: &GarbledSource<'_, A, B>,
         fours: u32,
     ) -> Result<(), WriteFault>
-        requires fits { FitsCircuit circuit.now garbling.now }
-        requires fours { 4 * fours ≤ garbling.now.outputs }
+        requires fits { FitsCircuit of.now.circuit.now of.now.garbling.now }
+        requires fours { 4 * fours ≤ of.now.garbling.now.outputs }
         ensures bytes { Proceeds O.saw self.old self.new
             (S.taken sink.old) (S.taken sink.new) result
-            (flat_map entry_bytes (entry_pairs_from offset garbling.now 0 (4 * fours))) }
+            (flat_map entry_bytes
+            (entry_pairs_from of.now.offset of.now.garbling.now 0 (4 * fours))) }
         ensures counted { CountsFailure result (S.failures sink.old) (S.failures sink.new) }
     {
-        circuit.law_lawful();
+        of.circuit.law_lawful();
         for k in 0..fours {
-            let pairs = four_entry_pairs(circuit, garbling, offset, 4 * k);
+            let pairs = four_entry_pairs(of.circuit, of.garbling, of.offset, 4 * k);
             self.write_pairs(sink, &pairs)?;
         }
         Ok(())
@@ -146,22 +179,20 @@ impl<O: Observer> FileWriter<O> {
     fn write_last_entries<S: Sink, A: Allocator, B: Allocator>(
         &mut self,
         sink: &mut S,
-        circuit: &Circuit<A>,
-        garbling: &Garbling<B>,
-        offset: Offset,
+        of: &GarbledSource<'_, A, B>,
         first: u32,
     ) -> Result<(), WriteFault>
-        requires fits { FitsCircuit circuit.now garbling.now }
-        requires first { first ≤ garbling.now.outputs }
+        requires fits { FitsCircuit of.now.circuit.now of.now.garbling.now }
+        requires first { first ≤ of.now.garbling.now.outputs }
         ensures bytes { Proceeds O.saw self.old self.new
             (S.taken sink.old) (S.taken sink.new) result
-            (flat_map entry_bytes (entry_pairs_from offset garbling.now first
-            (garbling.now.outputs - first))) }
+            (flat_map entry_bytes (entry_pairs_from of.now.offset of.now.garbling.now first
+            (of.now.garbling.now.outputs - first))) }
         ensures counted { CountsFailure result (S.failures sink.old) (S.failures sink.new) }
     {
-        for i in first..garbling.outputs() {
-            let entry_zero = output_entry(circuit, garbling, offset, i, false);
-            let entry_one = output_entry(circuit, garbling, offset, i, true);
+        for i in first..of.garbling.outputs() {
+            let entry_zero = output_entry(of.circuit, of.garbling, of.offset, i, false);
+            let entry_one = output_entry(of.circuit, of.garbling, of.offset, i, true);
             self.write(sink, &pair_bytes(entry_zero, entry_one))?;
         }
         Ok(())
@@ -207,6 +238,60 @@ fn named(entries: (Label, Label)) -> EntryPair
     }
 }
 
+/// Writes a garbled file to the sink, with its trailer or without, and returns how many bytes it wrote. The caller ensures
+/// that the digest is the circuit's and that the garbling fits the circuit. It doesn't allocate but what the sink takes.
+///
+/// Where the sink fails, it has taken the first `sent` of these bytes, and no others.
+pub fn write_garbled_file<S: Sink, A: Allocator, B: Allocator>(
+    sink: &mut S,
+    of: &GarbledSource<'_, A, B>,
+    trailer: Trailer,
+) -> Result<u64, WriteFault>
+    requires digest { of.now.digest.now ≡ sha256 (canonical_text of.now.circuit.now) }
+    requires fits { FitsCircuit of.now.circuit.now of.now.garbling.now }
+    ensures file { IsWritten (written_part trailer (honest_parts_with of.now.version
+        of.now.circuit.now of.now.garbling.now of.now.offset))
+        result (S.taken sink.old) (S.taken sink.new) }
+    ensures counted { CountsFailure result (S.failures sink.old) (S.failures sink.new) }
+{
+    match trailer {
+        Trailer::Written => write_whole(sink, of),
+        Trailer::Omitted => write_before_trailer(sink, of),
+    }
+}
+
+/// Writes a garbled file with its trailer.
+fn write_whole<S: Sink, A: Allocator, B: Allocator>(
+    sink: &mut S,
+    of: &GarbledSource<'_, A, B>,
+) -> Result<u64, WriteFault>
+    requires digest { of.now.digest.now ≡ sha256 (canonical_text of.now.circuit.now) }
+    requires fits { FitsCircuit of.now.circuit.now of.now.garbling.now }
+    ensures file { IsWritten (garbled_file (honest_parts_with of.now.version of.now.circuit.now
+        of.now.garbling.now of.now.offset)) result (S.taken sink.old) (S.taken sink.new) }
+    ensures counted { CountsFailure result (S.failures sink.old) (S.failures sink.new) }
+{
+    let mut file = FileWriter::new(LongSha256::new());
+    file.write_body(sink, of)?;
+    file.end_with_digest(sink)
+}
+
+/// Writes a garbled file without its trailer.
+fn write_before_trailer<S: Sink, A: Allocator, B: Allocator>(
+    sink: &mut S,
+    of: &GarbledSource<'_, A, B>,
+) -> Result<u64, WriteFault>
+    requires digest { of.now.digest.now ≡ sha256 (canonical_text of.now.circuit.now) }
+    requires fits { FitsCircuit of.now.circuit.now of.now.garbling.now }
+    ensures body { IsWritten (body (honest_parts_with of.now.version of.now.circuit.now
+        of.now.garbling.now of.now.offset)) result (S.taken sink.old) (S.taken sink.new) }
+    ensures counted { CountsFailure result (S.failures sink.old) (S.failures sink.new) }
+{
+    let mut file = FileWriter::new(Unobserved);
+    file.write_body(sink, of)?;
+    file.end(sink)
+}
+
 /// Writes the garbled file of version 1 to the sink and returns how many bytes it has: the digest of the circuit's
 /// canonical text, the garbling's rows and its decode bits. The caller ensures that the garbling fits the circuit. It
 /// doesn't allocate but what the sink takes.
@@ -222,26 +307,15 @@ pub fn write_garbled<S: Sink, A: Allocator, B: Allocator>(
         result (S.taken sink.old) (S.taken sink.new) }
     ensures counted { CountsFailure result (S.failures sink.old) (S.failures sink.new) }
 {
-    write_garbled_by_digest(sink, circuit, &circuit.digest(), garbling)
-}
-
-/// Writes the garbled file of version 1, as [`write_garbled`] does, where the caller has the digest of the circuit
-/// already, from [`Circuit::digest`].
-pub fn write_garbled_by_digest<S: Sink, A: Allocator, B: Allocator>(
-    sink: &mut S,
-    circuit: &Circuit<A>,
-    digest: &[u8; 32],
-    garbling: &Garbling<B>,
-) -> Result<u64, WriteFault>
-    requires digest { digest.now ≡ sha256 (canonical_text circuit.now) }
-    requires fits { FitsCircuit circuit.now garbling.now }
-    ensures file { IsWritten (garbled_file (parts_one circuit.now garbling.now))
-        result (S.taken sink.old) (S.taken sink.new) }
-    ensures counted { CountsFailure result (S.failures sink.old) (S.failures sink.new) }
-{
-    let mut file = FileWriter::new(LongSha256::new());
-    file.write_front(sink, Version::One, circuit, digest, garbling)?;
-    file.end_with_digest(sink)
+    let source = GarbledSource {
+        version: Version::One,
+        circuit,
+        digest: &circuit.digest(),
+        garbling,
+        // Version 1 has no entries, so any offset does.
+        offset: offset(&Seed::from_bytes([0; 32])),
+    };
+    write_whole(sink, &source)
 }
 
 /// Writes the garbled file of version 2, as [`write_garbled`] does that of version 1. After the decode bits it has an
@@ -257,69 +331,12 @@ pub fn write_garbled2<S: Sink, A: Allocator, B: Allocator>(
         result (S.taken sink.old) (S.taken sink.new) }
     ensures counted { CountsFailure result (S.failures sink.old) (S.failures sink.new) }
 {
-    write_garbled2_by_digest(sink, circuit, &circuit.digest(), garbling, seed)
-}
-
-/// Writes the garbled file of version 2, as [`write_garbled2`] does, where the caller has the digest of the circuit
-/// already, from [`Circuit::digest`].
-pub fn write_garbled2_by_digest<S: Sink, A: Allocator, B: Allocator>(
-    sink: &mut S,
-    circuit: &Circuit<A>,
-    digest: &[u8; 32],
-    garbling: &Garbling<B>,
-    seed: &Seed,
-) -> Result<u64, WriteFault>
-    requires digest { digest.now ≡ sha256 (canonical_text circuit.now) }
-    requires fits { FitsCircuit circuit.now garbling.now }
-    ensures file { IsWritten (garbled_file (parts_two circuit.now garbling.now seed.now))
-        result (S.taken sink.old) (S.taken sink.new) }
-    ensures counted { CountsFailure result (S.failures sink.old) (S.failures sink.new) }
-{
-    write_garbled2_with_offset(sink, circuit, digest, garbling, offset(seed))
-}
-
-/// Writes the garbled file of version 2, as [`write_garbled2_by_digest`] does, where the caller has the offset of the
-/// garbling. Its AND gates are numbered from 0 on: this is not checked.
-pub fn write_garbled2_with_offset<S: Sink, A: Allocator, B: Allocator>(
-    sink: &mut S,
-    circuit: &Circuit<A>,
-    digest: &[u8; 32],
-    garbling: &Garbling<B>,
-    offset: Offset,
-) -> Result<u64, WriteFault>
-    requires digest { digest.now ≡ sha256 (canonical_text circuit.now) }
-    requires fits { FitsCircuit circuit.now garbling.now }
-    ensures file { IsWritten (garbled_file (parts_two_with circuit.now garbling.now offset))
-        result (S.taken sink.old) (S.taken sink.new) }
-    ensures counted { CountsFailure result (S.failures sink.old) (S.failures sink.new) }
-{
-    let mut file = FileWriter::new(LongSha256::new());
-    file.write_front(sink, Version::Two, circuit, digest, garbling)?;
-    file.write_entries(sink, circuit, garbling, offset)?;
-    file.end_with_digest(sink)
-}
-
-/// Writes the garbled file of a version to the sink, but for its trailer, and returns how many bytes these are. The
-/// trailer is their digest, which the caller takes. The digest of the circuit is from [`Circuit::digest`], and the
-/// offset is that of the garbling, whose AND gates are numbered from 0 on: this is not checked.
-///
-/// Where the sink fails, it has taken the first `sent` of these bytes, and no others.
-pub fn write_before_trailer<S: Sink, A: Allocator, B: Allocator>(
-    sink: &mut S,
-    version: Version,
-    circuit: &Circuit<A>,
-    digest: &[u8; 32],
-    garbling: &Garbling<B>,
-    offset: Offset,
-) -> Result<u64, WriteFault>
-    requires digest { digest.now ≡ sha256 (canonical_text circuit.now) }
-    requires fits { FitsCircuit circuit.now garbling.now }
-    ensures body { IsWritten (body (honest_parts_with version circuit.now garbling.now offset))
-        result (S.taken sink.old) (S.taken sink.new) }
-    ensures counted { CountsFailure result (S.failures sink.old) (S.failures sink.new) }
-{
-    let mut file = FileWriter::new(Unobserved);
-    file.write_front(sink, version, circuit, digest, garbling)?;
-    file.write_version_entries(sink, version, circuit, garbling, offset)?;
-    file.end(sink)
+    let source = GarbledSource {
+        version: Version::Two,
+        circuit,
+        digest: &circuit.digest(),
+        garbling,
+        offset: offset(seed),
+    };
+    write_whole(sink, &source)
 }

@@ -13,7 +13,7 @@ use Rattle.gc_rounds.specs.Words.{stamp}
 use Rattle.gc_rounds.specs.Steps.{one_less, merged, nobody}
 use Rattle.gc_rounds.specs.declared.view.View.{View}
 use Rattle.gc_rounds.specs.declared.view.Key.{Key}
-use Rattle.gc_rounds.specs.declared.view.Stand.TheVariants.{Inside}
+use Rattle.gc_rounds.specs.declared.view.Position.TheVariants.{Inside}
 use Rattle.gc_gates.specs.Pairs.{is_pair, pairs, is_look, looked}
 use Rattle.gc_gates.specs.Layout.{Layout}
 use Rattle.gc_gates.specs.Layout.{one_round}
@@ -102,7 +102,7 @@ module _ {J : Type 0} (gates : J → ℕ) (right : J → ℕ → ℕ → ℕ →
     Holds s = Dealt key.seats s.views × Sound one_round gates right key.about s.words s.views
 
     abbrev Here : View (GateView J) → Type 0
-    Here v = (r : ℕ) → v.stand ≡ Inside r → r ≡ 0
+    Here v = (r : ℕ) → v.position ≡ Inside r → r ≡ 0
 
     pub opens : (n : ℕ) → n ≡ 3 * gates key.about + 1 → 0 < key.seats
         → Dealt key.seats (first_seat key ∷ [])

@@ -21,7 +21,7 @@ use Rattle.gc_rounds.specs.declared.view.Key.{Key}
 use Rattle.gc_gates.specs.Layout.{Layout, IsLayout}
 use Rattle.gc_gates.specs.Frame.{IsBeside, FrameLaw}
 use Rattle.gc_rounds.specs.declared.view.View.{View}
-use Rattle.gc_rounds.specs.declared.view.Stand.TheVariants.{Inside}
+use Rattle.gc_rounds.specs.declared.view.Position.TheVariants.{Inside}
 use Rattle.gc_rounds.specs.declared.view.Step.{Step}
 use Rattle.gc_rounds.specs.declared.view.Step.TheVariants.{Load, Store, Claim}
 use Rattle.gc_workers.proofs.Sums.{total-append, total-set, term_le, terms_le, sole, each-set, only_same, only_other, only_le, only_is}
@@ -232,7 +232,7 @@ module _ (lay : Layout) where
         rw (set-get_or words i 0) (
           law.loads key words views id v w e o.0 at_id (record {
             beside = idle;
-            stand = refl;
+            position = refl;
             all = refl;
             seats = refl;
             steps = refl;
@@ -276,9 +276,10 @@ module _ (lay : Layout) where
       )
 
       -- the word says which gate it is, and the seat in which round
-      here : (k h i : ℕ) → i < 3 → v.stand ≡ Inside k → at r g + i ≡ at k h + i → (k ≡ r) × (h ≡ g)
-      here k h i i_small stand e = (
-        inside_is k r (sym stand ∙ p.inside),
+      here : (k h i : ℕ) → i < 3 → v.position ≡ Inside k → at r g + i ≡ at k h + i
+          → (k ≡ r) × (h ≡ g)
+      here k h i i_small position e = (
+        inside_is k r (sym position ∙ p.inside),
         (law.layout.apart r g k h i i i_small i_small (sym e)).1,
       )
 
@@ -321,7 +322,7 @@ module _ (lay : Layout) where
                 let here = now_is s o at_id in grind arith)),
             (
               refl,
-              λ k h stand e. let it = here k h 0 (omega arith) stand (omega (arith, e)) in
+              λ k h position e. let it = here k h 0 (omega arith) position (omega (arith, e)) in
                   rw (it.0, it.1) (finds s o at_id, refl),
             ),
           ))
@@ -332,7 +333,7 @@ module _ (lay : Layout) where
           → right job r g i (get_or s.words (at r g + suc i) 0))
           → Owes (at r g + suc i) (λ n. n)
           (λ n m. (m.1 ≡ seat.me.1) × (m.0 ≡ after_half v (at r g + suc i) n)
-          × ((k h : ℕ) → v.stand ≡ Inside k → at r g + suc i ≡ at k h + suc i
+          × ((k h : ℕ) → v.position ≡ Inside k → at r g + suc i ≡ at k h + suc i
           → 0 < pairs k h v.inner.known → (j : J) → v.inner.job ≡ Some j → right j k h i n))
       loads_half i two is = owed (omega arith) (λ s h wide at_id small. let o = law.parts key s h in
           let word : ℕ = at r g + suc i in let found : ℕ = get_or s.words word 0 in
@@ -346,8 +347,8 @@ module _ (lay : Layout) where
             (
               refl,
               refl,
-              λ k h stand e known j its.
-                  let it = here k h (suc i) (omega arith) stand e in
+              λ k h position e known j its.
+                  let it = here k h (suc i) (omega arith) position e in
                   let one : Some job ≡ Some j = sym p.place.about ∙ its in
                   let ours : job ≡ j = cc in
                   rw (it.0, it.1, ← ours)
@@ -364,7 +365,7 @@ module _ (lay : Layout) where
           law.writes key s.words s.views seat.id r g i n v
           (changed v hand made known v.inner.looks e) e o.0 at_id (record {
             beside = idle;
-            stand = refl;
+            position = refl;
             all = refl;
             seats = refl;
             steps = refl;
@@ -481,7 +482,7 @@ module _ (lay : Layout) where
                 (λ k h phase has. cc) (λ known. known) (λ none_left. omega arith))),
             (
               refl,
-              λ k h stand e. let it = here k h 0 (omega arith) stand (omega (arith, e)) in
+              λ k h position e. let it = here k h 0 (omega arith) position (omega (arith, e)) in
                   rw (it.0, it.1) (finds s o at_id, inl hit, refl),
             ),
           ))
@@ -497,7 +498,7 @@ module _ (lay : Layout) where
                 (learns s.words v.inner.known r g f.knows) f.looks),
             (
               refl,
-              λ k h stand e. let it = here k h 0 (omega arith) stand (omega (arith, e)) in
+              λ k h position e. let it = here k h 0 (omega arith) position (omega (arith, e)) in
                   rw (it.0, it.1) (finds s o at_id, inr later, refl),
             ),
           )))

@@ -92,8 +92,8 @@ module _ {J : Type 0} (gates : J → ℕ) (right : J → ℕ → ℕ → ℕ →
       one (suc id) v e = absurd (some-ne-none v (sym e))
 
   pub moves : Moves (Sound two_banks gates right) (λ (v : GateView J). v.hand ≡ Empty)
-  moves job words views id b n v stand s o at_id small idle le =
-      let now = set words b n in let w = recorded v stand s in
+  moves job words views id b n v position s o at_id small idle le =
+      let now = set words b n in let w = recorded v position s in
       let room : b < length words = omega (arith, o.long) in
       let up : (k : ℕ) → two_banks.now words k ≤ two_banks.now now k = λ k.
       round_up words b n k room le in
@@ -275,12 +275,12 @@ module _ {J : Type 0} (gates : J → ℕ) (right : J → ℕ → ℕ → ℕ →
     dealt = λ key words views o. o.dealt;
     loads = λ key words views id v w e o at_id t.
         step_on_another_word key.jobs key.seats words words views id v w e o at_id o.wide
-        (λ b l. refl) t.stand t.all t.seats t.steps t.beside.0 t.beside.1 t.beside.2;
+        (λ b l. refl) t.position t.all t.seats t.steps t.beside.0 t.beside.1 t.beside.2;
     writes = λ key words views id r g i n v w e o at_id t.
         step_on_another_word key.jobs key.seats words (set words (two_banks.at r g + i) n) views id
         v w e o at_id (omega (arith, o.wide, length-set words (two_banks.at r g + i) n))
         (λ b l. get_or-set_other words (two_banks.at r g + i) b n 0 (λ e. omega arith))
-        t.stand t.all t.seats t.steps t.beside.0 t.beside.1 t.beside.2;
+        t.position t.all t.seats t.steps t.beside.0 t.beside.1 t.beside.2;
   }
     where
       same_bank : (r g k h : ℕ) → two_banks.at k h ≡ two_banks.at r g → bank_of k ≡ bank_of r

@@ -6,7 +6,7 @@ use Rattle.gc_workers.specs.Counts.{total, only}
 use Rattle.gc_workers.specs.declared.states.TheConstants.{DONE}
 use Rattle.gc_rounds.specs.declared.view.View.{View}
 use Rattle.gc_rounds.specs.declared.view.Key.{Key}
-use Rattle.gc_rounds.specs.declared.view.Stand.TheVariants.{Inside, Outside}
+use Rattle.gc_rounds.specs.declared.view.Position.TheVariants.{Inside, Outside}
 use Rattle.gc_gates.specs.Layout.{one_round}
 use Rattle.gc_gates.specs.Gates.{Cell, state_of, first_view, fresh_view}
 use Rattle.gc_gates.specs.Pairs.{pairs}
@@ -16,7 +16,7 @@ use Rattle.gc_gates.specs.declared.view.Hand.TheVariants.{Empty}
 -- The views stand for all seats, and each is in round 0, where it is in one.
 pub record Dealt {I : Type 0} (seats : ℕ) (views : List (View I)) : Type 0 where
   pub dealt : total (λ v. v.seats) views ≡ seats
-  pub here : (id : ℕ) (v : View I) → get_elem? views id ≡ some v → (r : ℕ) → v.stand ≡ Inside r
+  pub here : (id : ℕ) (v : View I) → get_elem? views id ≡ some v → (r : ℕ) → v.position ≡ Inside r
       → r ≡ 0
 
 module _ {J : Type 0} where
@@ -26,7 +26,7 @@ module _ {J : Type 0} where
     jobs = key.jobs;
     all = key.seats;
     seats = key.seats;
-    stand = Inside 0;
+    position = Inside 0;
     steps = [];
     inner = first_view key.about;
   }
@@ -37,7 +37,7 @@ module _ {J : Type 0} where
     jobs = v.jobs;
     all = v.all;
     seats = 1;
-    stand = Inside 0;
+    position = Inside 0;
     steps = [];
     inner = fresh_view v.inner;
   }
@@ -48,7 +48,7 @@ module _ {J : Type 0} where
     jobs = v.jobs;
     all = v.all;
     seats = 0;
-    stand = Outside;
+    position = Outside;
     steps = [];
     inner = record {
       job = v.inner.job;

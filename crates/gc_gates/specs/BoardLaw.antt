@@ -4,7 +4,7 @@ use mathlib.Core.Option.{some}
 use lib.ListN.{get_elem?}
 use Rattle.gc_workers.proofs.Sums.{total-set, each-set}
 use Rattle.gc_rounds.specs.declared.view.View.{View}
-use Rattle.gc_rounds.specs.declared.view.Stand.TheVariants.{Inside}
+use Rattle.gc_rounds.specs.declared.view.Position.TheVariants.{Inside}
 use Rattle.gc_gates.specs.Layout.{one_round}
 use Rattle.gc_gates.specs.Gates.{Sound}
 use Rattle.gc_gates.specs.Board.{Dealt}
@@ -13,16 +13,17 @@ use Rattle.gc_gates.specs.declared.view.GateView.{GateView}
 
 module _ {J : Type 0} (gates : J → ℕ) (right : J → ℕ → ℕ → ℕ → ℕ → Type 0) where
   moved : (seats : ℕ) (views : List (View (GateView J))) (id : ℕ) (v w : View (GateView J))
-      → Dealt seats views → get_elem? views id ≡ some v → w.stand ≡ v.stand → w.seats ≡ v.seats
+      → Dealt seats views → get_elem? views id ≡ some v → w.position ≡ v.position
+      → w.seats ≡ v.seats
       → Dealt seats (set views id w)
-  moved seats views id v w o at_id stand parts = record {
+  moved seats views id v w o at_id position parts = record {
     dealt = omega (
       arith,
       total-set (λ (u : View (GateView J)). u.seats) views id v w at_id,
       o.dealt,
     );
-    here = each-set (λ (u : View (GateView J)). (r : ℕ) → u.stand ≡ Inside r → r ≡ 0) views id w
-        (λ j u ne there. o.here j u there) (λ r is. o.here id v at_id r (sym stand ∙ is));
+    here = each-set (λ (u : View (GateView J)). (r : ℕ) → u.position ≡ Inside r → r ≡ 0) views id w
+        (λ j u ne there. o.here j u there) (λ r is. o.here id v at_id r (sym position ∙ is));
   }
 
   pub one_round_law : FrameLaw one_round gates right (λ key words views. Dealt key.seats views)
@@ -39,7 +40,7 @@ module _ {J : Type 0} (gates : J → ℕ) (right : J → ℕ → ℕ → ℕ →
     sees = λ key words views id r v o at_id is. sym (o.here id v at_id r is);
     dealt = λ key words views o. o.dealt;
     loads = λ key words views id v w e o at_id t.
-        moved key.seats views id v w o at_id t.stand t.seats;
+        moved key.seats views id v w o at_id t.position t.seats;
     writes = λ key words views id r g i n v w e o at_id t.
-        moved key.seats views id v w o at_id t.stand t.seats;
+        moved key.seats views id v w o at_id t.position t.seats;
   }

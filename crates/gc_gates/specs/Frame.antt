@@ -8,7 +8,7 @@ use Rattle.gc_rounds.specs.Views.{gives, unfair, seals_in}
 use Rattle.gc_rounds.specs.declared.view.View.{View}
 use Rattle.gc_rounds.specs.declared.view.Key.{Key}
 use Rattle.gc_rounds.specs.declared.view.Step.{Step}
-use Rattle.gc_rounds.specs.declared.view.Stand.TheVariants.{Inside}
+use Rattle.gc_rounds.specs.declared.view.Position.TheVariants.{Inside}
 use Rattle.gc_gates.specs.Layout.{Layout, IsLayout}
 use Rattle.gc_gates.specs.Gates.{Sound}
 use Rattle.gc_gates.specs.declared.view.GateView.{GateView}
@@ -20,7 +20,7 @@ IsBeside e = ((b : ℕ) → gives b e ≡ 0) × ((k : ℕ) → seals_in k e ≡ 
 -- The view w is v after this step, which leaves the seat where it is.
 pub record Stepped {I : Type 0} (v w : View I) (e : Step) : Type 0 where
   pub beside : IsBeside e
-  pub stand : w.stand ≡ v.stand
+  pub position : w.position ≡ v.position
   pub all : w.all ≡ v.all
   pub seats : w.seats ≡ v.seats
   pub steps : w.steps ≡ v.steps ++ e ∷ []
@@ -38,7 +38,7 @@ module _ {J : Type 0} (l : Layout) (gates : J → ℕ) (right : J → ℕ → �
     -- A seat that is inside a round sees the words in it.
     pub sees : (key : Key J) (words : List ℕ) (views : List (View (GateView J))) (id r : ℕ)
         (v : View (GateView J)) → outer key words views → get_elem? views id ≡ some v
-        → v.stand ≡ Inside r → l.now words r ≡ r
+        → v.position ≡ Inside r → l.now words r ≡ r
     pub dealt : (key : Key J) (words : List ℕ) (views : List (View (GateView J)))
         → outer key words views → total (λ v. v.seats) views ≡ key.seats
     -- A load keeps the outer rule, and so does a write to a gate's word.

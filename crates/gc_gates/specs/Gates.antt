@@ -9,7 +9,7 @@ use Rattle.gc_rounds.specs.declared.words.TheConstants.{ROUND}
 use Rattle.gc_workers.specs.Counts.{total, only}
 use Rattle.gc_rounds.specs.Words.{round_of, stamp}
 use Rattle.gc_rounds.specs.declared.view.View.{View}
-use Rattle.gc_rounds.specs.declared.view.Stand.TheVariants.{Inside}
+use Rattle.gc_rounds.specs.declared.view.Position.TheVariants.{Inside}
 use Rattle.gc_gates.specs.Layout.{Layout}
 use Rattle.gc_gates.specs.Pairs.{is_pair, pairs, looked}
 use Rattle.gc_gates.specs.declared.view.GateView.{GateView}
@@ -55,7 +55,7 @@ module _ {J : Type 0} (l : Layout) (gates : J → ℕ) (right : J → ℕ → �
   pub record Fits (job : J) (words : List ℕ) (v : View (GateView J)) : Type 0 where
     pub holding : IsHandRight job words v.inner.hand
     -- A gate in hand is in hand in the round that the seat is inside.
-    pub inside : (r g phase : ℕ) → v.inner.hand ≡ Has r g phase → v.stand ≡ Inside r
+    pub inside : (r g phase : ℕ) → v.inner.hand ≡ Has r g phase → v.position ≡ Inside r
     -- A gate that is known to be done in a round is so, or its words are of a later round.
     pub knows : (r g : ℕ) → 0 < pairs r g v.inner.known → stamp r DONE ≤ state_of l words r g
     -- A state word that a load found in a round is there still, or has gone on to IN_HAND or DONE in that round, or

@@ -4,7 +4,7 @@ use Rattle.atomic_table.specs.Seated.{TableId}
 use Rattle.atomic_table.specs.declared.shared.Seat.{Seat}
 use Rattle.gc_rounds.specs.declared.view.View.{View}
 use Rattle.gc_rounds.specs.declared.view.Key.{Key}
-use Rattle.gc_rounds.specs.declared.view.Stand.TheVariants.{Inside}
+use Rattle.gc_rounds.specs.declared.view.Position.TheVariants.{Inside}
 use Rattle.gc_gates.specs.Layout.{Layout}
 use Rattle.gc_gates.specs.declared.view.GateView.{GateView}
 
@@ -24,11 +24,11 @@ module _ {J S : Type 0} where
   pub record IsPlaceInside (l : Layout) (gates : J → ℕ) (table : TableId) (key : Key J)
       (seat : Seat S (View (GateView J))) (round : ℕ) : Type 0 where
     pub place : IsGatePlace l gates table key seat
-    pub inside : seat.me.0.stand ≡ Inside round
+    pub inside : seat.me.0.position ≡ Inside round
 
   -- It is, and there is such a gate.
   pub record IsPlaceAt (l : Layout) (gates : J → ℕ) (table : TableId) (key : Key J)
       (seat : Seat S (View (GateView J))) (round gate : ℕ) : Type 0 where
     pub place : IsGatePlace l gates table key seat
-    pub inside : seat.me.0.stand ≡ Inside round
+    pub inside : seat.me.0.position ≡ Inside round
     pub exists : gate < gates key.about

@@ -6,7 +6,7 @@ use Rattle.gc_rounds.specs.declared.words.TheConstants.{ROUND}
 use Rattle.gc_workers.specs.Counts.{only}
 use Rattle.gc_rounds.specs.Words.{round_of, stamp}
 use Rattle.gc_rounds.specs.declared.view.View.{View}
-use Rattle.gc_rounds.specs.declared.view.Stand.TheVariants.{Inside}
+use Rattle.gc_rounds.specs.declared.view.Position.TheVariants.{Inside}
 use Rattle.gc_rounds.specs.declared.view.Step.TheVariants.{Load, Store, Claim}
 use Rattle.gc_rounds.specs.declared.view.Step as record_step
 use Rattle.gc_gates.specs.Pairs.{pairs}
@@ -38,7 +38,7 @@ module _ {J : Type 0} where
     jobs = v.jobs;
     all = v.all;
     seats = v.seats;
-    stand = v.stand;
+    position = v.position;
     steps = v.steps ++ s ∷ [];
     inner = record { job = v.inner.job; hand = hand; made = made; known = known; looks = looks };
   }
@@ -90,7 +90,7 @@ module _ {J : Type 0} where
         → Me S (View (GateView J))
         → Type 0
     state_loaded l st m found m' =
-        (m'.1 ≡ m.1) × ((r g : ℕ) → m.0.stand ≡ Inside r → st.word ≡ l.at r g
+        (m'.1 ≡ m.1) × ((r g : ℕ) → m.0.position ≡ Inside r → st.word ≡ l.at r g
         → Finds m.0 r g found × (m'.0 ≡ after_state l m.0 r g found))
 
     -- a load of the low half of a gate: that of a known gate is right in the round
@@ -99,7 +99,8 @@ module _ {J : Type 0} where
         → Me S (View (GateView J)) → Type 0
     low_loaded l right st m found m' =
         (m'.1 ≡ m.1) × (m'.0 ≡ after_half m.0 st.word found)
-        × ((r g : ℕ) → m.0.stand ≡ Inside r → st.word ≡ l.at r g + 1 → 0 < pairs r g m.0.inner.known
+        × ((r g : ℕ) → m.0.position ≡ Inside r → st.word ≡ l.at r g + 1
+        → 0 < pairs r g m.0.inner.known
         → (job : J) → m.0.inner.job ≡ Some job → right job r g 0 found)
 
     -- a load of the high half
@@ -108,7 +109,8 @@ module _ {J : Type 0} where
         → Me S (View (GateView J)) → Type 0
     high_loaded l right st m found m' =
         (m'.1 ≡ m.1) × (m'.0 ≡ after_half m.0 st.word found)
-        × ((r g : ℕ) → m.0.stand ≡ Inside r → st.word ≡ l.at r g + 2 → 0 < pairs r g m.0.inner.known
+        × ((r g : ℕ) → m.0.position ≡ Inside r → st.word ≡ l.at r g + 2
+        → 0 < pairs r g m.0.inner.known
         → (job : J) → m.0.inner.job ≡ Some job → right job r g 1 found)
 
     -- an exchange of a state word from a free one that a load found
@@ -116,7 +118,7 @@ module _ {J : Type 0} where
         → Type 0
     claimed l st m found m' =
         (m'.1 ≡ m.1)
-        × ((r g : ℕ) → m.0.stand ≡ Inside r → st.word ≡ l.at r g
+        × ((r g : ℕ) → m.0.position ≡ Inside r → st.word ≡ l.at r g
         → Finds m.0 r g found × ((found ≡ st.first) ⊎ (stamp r FREE < found))
         × (m'.0 ≡ after_claim l m.0 r g st.first found))
 

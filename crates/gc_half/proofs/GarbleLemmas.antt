@@ -7,7 +7,8 @@ use Rattle.std.proofs.lemmas.List.FromFn.{length-map-range_with_len}
 use Rattle.gc_netlist.specs.Solution.{values_after}
 use Rattle.gc_netlist.proofs.Tables.{read-table, length-table, table_padded, IsSetBefore-below}
 use Rattle.gc_half.specs.Garbling.{IsGarbledFrom}
-use Rattle.gc_half.specs.Begun.{AreGarbled, labels_after, label_of}
+use Rattle.gc_half.specs.FirstGates.{AreGarbled, IsTableAfter, labels_after, label_of}
+use Rattle.gc_half.specs.Comparing.{RowTableParts}
 use Rattle.gc_half.specs.Hash.{hash, numbered_from}
 use Rattle.gc_half.specs.SideBySide.{IsOneGateMore}
 use Rattle.gc_half.proofs.AndNumbers.{and_number-le}
@@ -139,6 +140,18 @@ module _ (h : ℕ → ℕ → ℕ) (r : ℕ) (c : Netlist) (given : List ℕ) wh
           → (w : ℕ) → w < c.wires → ¬ IsSet c w → slice_index table w ≡ 0
       table-not_set table is w below unset =
           rw is (read-table (label_of h r c given) c.wires w 0 below ∙ label_of-not_set w unset)
+
+-- No gate is garbled yet.
+pub table-start : (first r : ℕ) (c : Netlist) → IsLawful c → (given : List ℕ)
+    → length given ≡ input_wires c → (compared : RowTableParts)
+    → IsTableAfter first r c given 0
+    (record { first = first; labels = given; rows = []; compared = compared; waiting = [] })
+table-start first r c lawful given long compared =
+    record {
+      numbered = refl;
+      garbled = garbled-start (numbered_from first hash) r c given lawful long;
+      waiting = λ w unset. tt;
+    }
 
 -- After the last gate the table and the row pairs are the garbling.
 pub garbled-end : (first r : ℕ) (c : Netlist) (given : List ℕ) → IsLawful c

@@ -3,7 +3,7 @@
 use Rattle.std.specs.Prelude.{ℕ, ◌+◌, ◌-◌, ◌*◌, Bool, true, false, length, slice_index}
 use Rattle.gc_circuit.specs.Meaning.{xor}
 use Rattle.gc_label.specs.Label.{colour}
-use Rattle.gc_half.specs.Hash.{hash, numbered_from}
+use Rattle.gc_half.specs.Hash.{hash}
 use Rattle.gc_half.specs.Garbling.{GarblingParts}
 use Rattle.gc_half.specs.Evaluation.{encode}
 
@@ -14,14 +14,6 @@ label_of_colour offset zero_label s = encode offset zero_label (xor (colour zero
 -- The tweak of output i. Those of the AND gates, 2 * k and 2 * k + 1, come before it.
 abbrev pub output_tweak : ℕ → ℕ → ℕ
 output_tweak and_gates i = 2 * and_gates + i
-
--- Entry s of output i, where AND gates are numbered from `first` on: the hash of the label of its wire that has the
--- colour s.
-abbrev pub entry_from : ℕ → ℕ → GarblingParts → ℕ → Bool → ℕ
-entry_from first offset g i s =
-    numbered_from first hash
-    (label_of_colour offset (slice_index g.zero_labels (length g.zero_labels - g.outputs + i)) s)
-    (output_tweak (length g.rows) i)
 
 -- Entry s of output i: the hash of the label of its wire that has the colour s.
 abbrev pub entry_of : ℕ → GarblingParts → ℕ → Bool → ℕ

@@ -5,7 +5,7 @@ pub mod Garbling
 pub mod Evaluation
 pub mod Entry
 pub mod Canonical
-pub mod Begun
+pub mod FirstGates
 pub mod Law
 pub mod Comparing
 pub mod Waiting

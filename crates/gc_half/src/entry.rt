@@ -6,9 +6,8 @@ ghost use Rattle.gc_netlist.specs.Circuit.{output_wires};
 ghost use Rattle.gc_label.specs.Label.{colour};
 ghost use Rattle.gc_half.specs.Garbling.{FitsCircuit};
 ghost use Rattle.gc_half.specs.Hash.{hash};
-ghost use Rattle.gc_half.specs.Entry.{label_of_colour, entry_of, entry_from, entries_of};
+ghost use Rattle.gc_half.specs.Entry.{label_of_colour, entry_of, entries_of};
 
-use crate::first::FirstAnd;
 use crate::garbling::Garbling;
 use crate::hash::{tweak_hash, tweak_hash_eight};
 use gc_circuit::Circuit;
@@ -31,26 +30,6 @@ pub fn output_entry<A: Allocator, B: Allocator>(
 {
     let (label, tweak) = hashed(circuit, garbling, offset, i, s);
     tweak_hash(label, tweak)
-}
-
-/// Entry `s` of output i, where AND gates are numbered from `first` on: the tweak is 2(first + A) + i.
-#[tactic(auto, using(crate::proofs::EntryLemmas::entries))]
-pub fn output_entry_from<A: Allocator, B: Allocator>(
-    circuit: &Circuit<A>,
-    garbling: &Garbling<B>,
-    offset: Offset,
-    first: FirstAnd,
-    i: u32,
-    s: bool,
-) -> Label
-    requires fits { FitsCircuit circuit.now garbling.now }
-    requires output { i < output_wires circuit.now }
-    ensures { result ≡ entry_from first offset garbling.now i s }
-{
-    circuit.law_lawful();
-    let wire = circuit.wires() - circuit.output_wires() + i;
-    let tweak = first.tweak(circuit.and_count()) + u64::from(i);
-    tweak_hash(label_of_colour(offset, garbling.zero_label(wire), s), tweak)
 }
 
 /// The entries 0 and 1 of four outputs, from output `first` on, each as [`output_entry`] gives it. They are hashed at

@@ -4,7 +4,7 @@ ghost use Rattle.std.specs.Prelude.{◌≡◌, ℕ, length, map, IfOk};
 ghost use Rattle.std.specs.List.{range_with_len};
 ghost use Rattle.gc_netlist.specs.Circuit.{and_count, input_wires, output_wires};
 ghost use Rattle.gc_netlist.specs.Solution.{on_outputs};
-ghost use Rattle.gc_half.specs.Evaluation.{AreActive, AreActiveFrom};
+ghost use Rattle.gc_half.specs.Evaluation.{AreActiveFrom};
 ghost use Rattle.gc_half.specs.Joined.{AreOutputLabels};
 
 use crate::active_labels::input_active_labels;
@@ -16,22 +16,8 @@ use gc_label::Label;
 use std::alloc::Allocator;
 
 /// The active labels of all wires, evaluated from row pairs and active labels of the input wires, gate after gate in
-/// file order: 16 zero bytes for a wire that is not set. It allocates once, for the labels. The caller ensures that
-/// there are as many row pairs as AND gates, and as many labels as input wires.
-pub fn evaluate_one_thread<A: Allocator + Copy, C: Allocator>(
-    alloc: A,
-    circuit: &Circuit<C>,
-    rows: &[RowPair],
-    inputs: &[Label],
-) -> Result<Vec<Label, A>, Memory>
-    requires rows { length rows.now ≡ and_count circuit.now }
-    requires inputs { length inputs.now ≡ input_wires circuit.now }
-    ensures { IfOk result (λ v. AreActive circuit.now rows.now inputs.now v.items) }
-{
-    evaluate_from(alloc, circuit, rows, FirstAnd::ZERO, inputs)
-}
-
-/// The active labels of all wires, as [`evaluate_one_thread`] gives them, where AND gates are numbered from `first` on.
+/// file order: 16 zero bytes for a wire that is not set. AND gates are numbered from `first` on. It allocates once, for
+/// the labels. The caller ensures that there are as many row pairs as AND gates, and as many labels as input wires.
 pub fn evaluate_from<A: Allocator + Copy, C: Allocator>(
     alloc: A,
     circuit: &Circuit<C>,

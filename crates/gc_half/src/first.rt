@@ -47,15 +47,6 @@ impl FirstAnd {
         }
     }
 
-    /// The number after those of `and_gates` AND gates that are numbered from 0 on.
-    pub(crate) fn after(and_gates: u32) -> FirstAnd
-        ensures { result ≡ and_gates }
-    {
-        FirstAnd {
-            number: u64::from(and_gates),
-        }
-    }
-
     /// The first tweak of the k-th AND gate, counted from 0. Its second tweak is the next number.
     #[inline]
     pub(crate) fn tweak(self, k: u32) -> u64

@@ -2,7 +2,7 @@
 
 ghost use Rattle.std.specs.Prelude.{◌≡◌, ◌≤◌, length, slice_index, IfOk, MatchOption};
 ghost use Rattle.gc_netlist.specs.Circuit.{and_count, input_wires, output_wires};
-ghost use Rattle.gc_half.specs.Begun.{GarblesTo, IsSomeTable};
+ghost use Rattle.gc_half.specs.FirstGates.{GarblesTo, IsSomeTable};
 ghost use Rattle.gc_half.specs.Comparing.{IsFirstMismatch, KeepsCompared};
 ghost use Rattle.gc_half.specs.Garbling.{IsGarbled, IsGarbledFrom};
 

@@ -83,27 +83,6 @@ impl<A: Allocator> Garbling<A> {
         }
     }
 
-    /// The garbling with these row pairs before its own. It doesn't allocate where there is room for all after them.
-    pub fn after(self, mut first: Vec<RowPair, A>) -> Result<Garbling<A>, Memory>
-        ensures { IfOk result (λ g. g ≡ record {
-          zero_labels = self.zero_labels;
-          rows = first.items ++ self.rows;
-          outputs = self.outputs;
-        }) }
-    {
-        let Garbling {
-            zero_labels,
-            rows,
-            outputs,
-        } = self;
-        first.extend_from_slice(&rows)?;
-        Ok(Garbling {
-            zero_labels,
-            rows: first,
-            outputs,
-        })
-    }
-
     /// The zero label of a wire. The caller ensures that there is such a wire.
     pub fn zero_label(&self, wire: u32) -> Label
         requires { wire < length self.now.zero_labels }

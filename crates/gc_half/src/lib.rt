@@ -4,7 +4,7 @@
 //!
 //! [`garble_one_thread`] makes the [`Garbling`] of a circuit under a seed: a zero label for each wire and a
 //! [`RowPair`] for each AND gate. The other label of a wire is its zero label plus the offset. Evaluation
-//! ([`evaluate_one_thread`]) follows one label of each wire, the active one, through the gates: [`eval_and`] is
+//! ([`evaluate_from`]) follows one label of each wire, the active one, through the gates: [`eval_and`] is
 //! its step at an AND gate.
 //!
 //! [`garble_two`] garbles a circuit under two seeds side by side, and [`evaluate_four_from`] evaluates it four times.
@@ -19,7 +19,6 @@
 
 mod active_labels;
 mod active_table;
-mod begun;
 mod bit_label;
 mod entry;
 mod evaluate;
@@ -40,10 +39,9 @@ mod waiting;
 mod zero_labels;
 
 pub use active_labels::input_active_labels;
-pub use begun::{BegunGarbling, begin_garbling};
 pub use bit_label::encode;
-pub use entry::{four_output_entries, output_entry, output_entry_from};
-pub use evaluate::{evaluate_from, evaluate_labels, evaluate_one_thread, output_labels};
+pub use entry::{four_output_entries, output_entry};
+pub use evaluate::{evaluate_from, evaluate_labels, output_labels};
 pub use first::FirstAnd;
 pub use four::{Evaluation, Four, evaluate_four_from};
 pub use garble::{garble_and_compare, garble_from, garble_one_thread};
@@ -56,6 +54,6 @@ pub use laws::{law_garblings, law_half_gates, law_joined};
 pub use numbers::and_numbers;
 pub use one_gate::{evaluate_gate, garble_gate, labels_read};
 pub use table::Table;
-pub use two::{InputLabels, garble_two, garble_two_from};
+pub use two::garble_two;
 pub use waiting::{WaitingGate, WaitingGates};
 pub use zero_labels::input_zero_labels;

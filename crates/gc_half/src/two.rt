@@ -1,8 +1,10 @@
 //! Two garblings of one circuit, side by side: the k-th AND gates of both are garbled at once, so no gate waits.
 
-ghost use Rattle.std.specs.Prelude.{◌≡◌, ◌<◌, ◌≤◌, ◌^◌, ◌-◌, ◌++◌, ℕ, [], IfOk, OnOk, length, slice_index, take, replicate};
+ghost use Rattle.std.specs.Prelude.{◌≡◌, ◌<◌, ◌≤◌, ◌^◌, ◌-◌, ◌++◌, ℕ, [], IfOk, OnOk, length, map, slice_index, take, replicate};
+ghost use Rattle.std.specs.List.{range_with_len};
 ghost use Rattle.gc_netlist.specs.Circuit.{EachRead, input_wires, output_wires};
 ghost use Rattle.gc_netlist.specs.Solution.{put};
+ghost use Rattle.gc_label.specs.Seed.{offset_of, input_label_of};
 ghost use Rattle.gc_half.specs.Hash.{hash, numbered_from};
 ghost use Rattle.gc_half.specs.HalfGate.{and_garbled};
 ghost use Rattle.gc_half.specs.OneGate.{first_read, second_read, gate_zero, gate_rows};
@@ -19,38 +21,6 @@ use gc_circuit::{Circuit, Gate, Memory, Operation};
 use gc_label::{Label, Offset, Seed, offset};
 use std::alloc::{Allocator, Global};
 
-/// What a garbling begins with.
-#[derive(Clone, Copy)]
-pub struct InputLabels<'l> {
-    /// The offset.
-    pub offset: Offset,
-    /// The zero label of each input wire.
-    pub zero: &'l [Label],
-}
-
-/// Two garblings of one circuit, made side by side on one thread, each from an offset and zero labels of its own ("Two
-/// Halves Make a Whole", the procedure Gb). AND gates are numbered from `first` on. Each is what
-/// [`garble_from`](crate::garble_from) returns. It allocates for the labels and for the rows of each, once. The caller
-/// ensures that there are as many zero labels as input wires.
-pub fn garble_two_from<A: Allocator + Copy, C: Allocator>(
-    alloc: A,
-    circuit: &Circuit<C>,
-    first: FirstAnd,
-    one: InputLabels<'_>,
-    other: InputLabels<'_>,
-) -> Result<(Garbling<A>, Garbling<A>), Memory>
-    requires one { length one.zero.now ≡ input_wires circuit.now }
-    requires other { length other.zero.now ≡ input_wires circuit.now }
-    ensures one { IfOk result (λ made. IsGarbledFrom one.entry.offset
-        (slice_index one.entry.zero.now) first circuit.now made.0) }
-    ensures other { IfOk result (λ made. IsGarbledFrom other.entry.offset
-        (slice_index other.entry.zero.now) first circuit.now made.1) }
-{
-    let garbler = Garbler::new(alloc, circuit, one.offset, one.zero)?;
-    let beside = Garbler::new(alloc, circuit, other.offset, other.zero)?;
-    garble_both(circuit, first, garbler, beside)
-}
-
 /// The garblings of one circuit under two seeds, made side by side on one thread. Each is what
 /// [`garble_one_thread`](crate::garble_one_thread) returns.
 pub fn garble_two<A: Allocator + Copy, C: Allocator>(
@@ -62,24 +32,15 @@ pub fn garble_two<A: Allocator + Copy, C: Allocator>(
     ensures one { IfOk result (λ made. IsGarbled circuit.now seed.now made.0) }
     ensures other { IfOk result (λ made. IsGarbled circuit.now other.now made.1) }
 {
-    let one = Garbler {
-        offset: offset(seed),
-        labels: labels_of_inputs(alloc, circuit, seed)?,
-        rows: Vec::with_capacity(alloc, circuit.and_count() as usize)?,
-    };
-    let other = Garbler {
-        offset: offset(other),
-        labels: labels_of_inputs(alloc, circuit, other)?,
-        rows: Vec::with_capacity(alloc, circuit.and_count() as usize)?,
-    };
-    garble_both(circuit, FirstAnd::ZERO, one, other)
+    let one = Garbler::new(alloc, circuit, seed)?;
+    let other = Garbler::new(alloc, circuit, other)?;
+    garble_both(circuit, one, other)
 }
 
 /// Both garblings, gate after gate. The caller ensures that no row pair is made yet, and that there are as many labels
 /// as input wires.
 fn garble_both<A: Allocator, C: Allocator>(
     circuit: &Circuit<C>,
-    first: FirstAnd,
     mut one: Garbler<A>,
     mut other: Garbler<A>,
 ) -> Result<(Garbling<A>, Garbling<A>), Memory>
@@ -88,19 +49,13 @@ fn garble_both<A: Allocator, C: Allocator>(
     requires none { one.rows.items ≡ [] }
     requires no_other { other.rows.items ≡ [] }
     ensures one { IfOk result (λ made.
-        IsGarbledFrom one.offset (slice_index one.labels.items) first circuit.now made.0) }
+        IsGarbledFrom one.offset (slice_index one.labels.items) 0 circuit.now made.0) }
     ensures other { IfOk result (λ made.
-        IsGarbledFrom other.offset (slice_index other.labels.items) first circuit.now made.1) }
+        IsGarbledFrom other.offset (slice_index other.labels.items) 0 circuit.now made.1) }
 {
     circuit.law_lawful();
     for i in 0..circuit.gates() {
-        step(
-            first,
-            &mut one,
-            &mut other,
-            circuit.wires(),
-            circuit.gate(i),
-        )?;
+        step(&mut one, &mut other, circuit.wires(), circuit.gate(i))?;
     }
     Ok((one.finish(circuit)?, other.finish(circuit)?))
 }
@@ -108,7 +63,6 @@ fn garble_both<A: Allocator, C: Allocator>(
 /// Garbles one more gate in both. The caller ensures that there are the wires, and that both have as many row pairs.
 #[inline(always)]
 fn step<A: Allocator>(
-    first: FirstAnd,
     one: &mut Garbler<A>,
     other: &mut Garbler<A>,
     wires: u32,
@@ -123,9 +77,9 @@ fn step<A: Allocator>(
     requires same { length other.old.rows.items ≡ length one.old.rows.items }
     ensures offset { OnOk result (one.new.offset ≡ one.old.offset) }
     ensures other_offset { OnOk result (other.new.offset ≡ other.old.offset) }
-    ensures one { OnOk result (IsOneGateMore (numbered_from first hash) one.old.offset wires gate
+    ensures one { OnOk result (IsOneGateMore (numbered_from 0 hash) one.old.offset wires gate
         one.old.labels.items one.old.rows.items one.new.labels.items one.new.rows.items) }
-    ensures other { OnOk result (IsOneGateMore (numbered_from first hash) other.old.offset
+    ensures other { OnOk result (IsOneGateMore (numbered_from 0 hash) other.old.offset
         wires gate other.old.labels.items other.old.rows.items
         other.new.labels.items other.new.rows.items) }
 {
@@ -133,7 +87,6 @@ fn step<A: Allocator>(
     let (a, b) = one.read(gate.operation);
     let (c, d) = other.read(gate.operation);
     let (made, other_made) = garble_gate_of_both(
-        first,
         gate.operation,
         AndGate {
             k,
@@ -155,35 +108,34 @@ fn step<A: Allocator>(
 /// Garbles the AND gates of both. It is not inlined: its many variables would push those of the loop out of the
 /// registers.
 #[inline(never)]
-fn garble_ands(first: FirstAnd, one: AndGate, other: AndGate) -> (GarbledAnd, GarbledAnd)
+fn garble_ands(one: AndGate, other: AndGate) -> (GarbledAnd, GarbledAnd)
     ensures one { result.0
-        ≡ and_garbled (numbered_from first hash) one.k one.offset one.a one.b }
+        ≡ and_garbled (numbered_from 0 hash) one.k one.offset one.a one.b }
     ensures other { result.1
-        ≡ and_garbled (numbered_from first hash) other.k other.offset other.a other.b }
+        ≡ and_garbled (numbered_from 0 hash) other.k other.offset other.a other.b }
 {
-    garble_two_ands_from(first, one, other)
+    garble_two_ands_from(FirstAnd::ZERO, one, other)
 }
 
 /// Garbles one gate of two garblings, as [`crate::garble_gate`] does.
 #[inline(always)]
 fn garble_gate_of_both(
-    first: FirstAnd,
     operation: Operation,
     one: AndGate,
     other: AndGate,
 ) -> ((Label, Option<RowPair>), (Label, Option<RowPair>))
     ensures label { result.0.0
-        ≡ gate_zero (numbered_from first hash) one.offset one.k operation one.a one.b }
+        ≡ gate_zero (numbered_from 0 hash) one.offset one.k operation one.a one.b }
     ensures rows { result.0.1
-        ≡ gate_rows (numbered_from first hash) one.offset one.k operation one.a one.b }
+        ≡ gate_rows (numbered_from 0 hash) one.offset one.k operation one.a one.b }
     ensures other_label { result.1.0
-        ≡ gate_zero (numbered_from first hash) other.offset other.k operation other.a other.b }
+        ≡ gate_zero (numbered_from 0 hash) other.offset other.k operation other.a other.b }
     ensures other_rows { result.1.1
-        ≡ gate_rows (numbered_from first hash) other.offset other.k operation other.a other.b }
+        ≡ gate_rows (numbered_from 0 hash) other.offset other.k operation other.a other.b }
 {
     match operation {
         Operation::And(_, _) => {
-            let (made, other_made) = garble_ands(first, one, other);
+            let (made, other_made) = garble_ands(one, other);
             (
                 (made.zero_label, Some(made.rows)),
                 (other_made.zero_label, Some(other_made.rows)),
@@ -211,26 +163,19 @@ struct Garbler<A: Allocator = Global> {
 }
 
 impl<A: Allocator> Garbler<A> {
-    /// No row pair yet, and the zero labels of the input wires.
-    fn new<C: Allocator>(
-        alloc: A,
-        circuit: &Circuit<C>,
-        offset: Offset,
-        zero_labels: &[Label],
-    ) -> Result<Garbler<A>, Memory>
+    /// No row pair yet, and the zero labels of the input wires under a seed.
+    fn new<C: Allocator>(alloc: A, circuit: &Circuit<C>, seed: &Seed) -> Result<Garbler<A>, Memory>
     where
         A: Copy,
-        ensures offset { IfOk result (λ g. g.offset ≡ offset) }
-        ensures labels { IfOk result (λ g. g.labels.items ≡ zero_labels.now) }
+        ensures offset { IfOk result (λ g. g.offset ≡ offset_of seed.now) }
+        ensures labels { IfOk result (λ g. g.labels.items
+            ≡ map (input_label_of seed.now) (range_with_len 0 (input_wires circuit.now))) }
         ensures rows { IfOk result (λ g. g.rows.items ≡ []) }
     {
-        let rows = Vec::with_capacity(alloc, circuit.and_count() as usize)?;
-        let mut labels = Vec::with_capacity(alloc, circuit.wires() as usize)?;
-        labels.extend_from_slice(zero_labels)?;
         Ok(Garbler {
-            offset,
-            labels,
-            rows,
+            offset: offset(seed),
+            labels: labels_of_inputs(alloc, circuit, seed)?,
+            rows: Vec::with_capacity(alloc, circuit.and_count() as usize)?,
         })
     }
 

@@ -1,9 +1,11 @@
 //! The faults of binding a job and of evaluating it.
 
 ghost use Rattle.std.specs.Prelude.{◌≡◌};
-ghost use Rattle.gc_job.specs.Fault.{bind_code_of, bind_name_of, eval_code_of, eval_name_of};
+ghost use Rattle.gc_netlist.specs.Names.{fault_name};
+ghost use Rattle.gc_job.specs.Fault.{bind_code_of, eval_code_of};
 
 use gc_circuit::Memory;
+use gc_netlist::fault_name;
 use std::alloc::{AllocError, AllocFailed};
 use std::error::Error;
 use std::fmt;
@@ -47,17 +49,9 @@ impl BindFault {
 
     /// The name of the fault, as users see it.
     pub fn name(self) -> &'static str
-        ensures { result.now ≡ bind_name_of self }
+        ensures { result.now ≡ fault_name (bind_code_of self) }
     {
-        match self {
-            BindFault::OtherCircuit => "OtherCircuit",
-            BindFault::OtherCounts => "OtherCounts",
-            BindFault::NoSuchValue => "NoSuchValue",
-            BindFault::WrongWidth => "WrongWidth",
-            BindFault::DoubleValue => "DoubleValue",
-            BindFault::MissingValue => "MissingValue",
-            BindFault::Memory => "Memory",
-        }
+        fault_name(self.code())
     }
 }
 
@@ -65,7 +59,7 @@ impl BindFault {
 impl fmt::Display for BindFault {
     ghost use Rattle.std.specs.Prelude.{Some};
 
-    ghost output = { λ fault. Some (bind_name_of fault) };
+    ghost output = { λ fault. Some (fault_name (bind_code_of fault)) };
 
     fn fmt<W: fmt::Write>(&self, f: &mut fmt::Formatter<W>) -> fmt::Result {
         f.write_str(self.name())
@@ -115,13 +109,9 @@ impl EvalFault {
 
     /// The name of the fault, as users see it.
     pub fn name(self) -> &'static str
-        ensures { result.now ≡ eval_name_of self }
+        ensures { result.now ≡ fault_name (eval_code_of self) }
     {
-        match self {
-            EvalFault::BadWorkers => "BadWorkers",
-            EvalFault::UnknownOutputLabel { .. } => "UnknownOutputLabel",
-            EvalFault::Memory => "Memory",
-        }
+        fault_name(self.code())
     }
 }
 
@@ -129,7 +119,7 @@ impl EvalFault {
 impl fmt::Display for EvalFault {
     ghost use Rattle.std.specs.Prelude.{Some};
 
-    ghost output = { λ fault. Some (eval_name_of fault) };
+    ghost output = { λ fault. Some (fault_name (eval_code_of fault)) };
 
     fn fmt<W: fmt::Write>(&self, f: &mut fmt::Formatter<W>) -> fmt::Result {
         f.write_str(self.name())

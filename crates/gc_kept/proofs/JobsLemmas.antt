@@ -13,7 +13,7 @@ use Rattle.gc_job.proofs.OutputLemmas.{of-parts, to-parts}
 use Rattle.gc_job.specs.Job.{JobParts, IsWhole, job_of}
 use Rattle.gc_kept.specs.declared.fault.KeptFault.{KeptFault}
 use Rattle.gc_kept.specs.declared.fault.KeptFault.TheVariants.{Circuit, BadDigit, WrongLength, Garbling, File, Binding, Evaluation, BadArgument, SmallBuffer, Memory, WrongSize}
-use Rattle.gc_kept.specs.Jobs.{AreBitsAt, AreBitsOf, AreOnOneCircuit, HasJobsFault, HasListFault, IsEvaluatedTo, outputs_of}
+use Rattle.gc_kept.specs.Jobs.{AreBitsAt, AreBitsOf, AreOnOneCircuit, HasFirstJobFault, HasJobListFault, IsEvaluatedTo, outputs_of}
 use Rattle.gc_kept.proofs.ManyLemmas.{all_more}
 
 -- The job at a place of a list of things that have jobs.
@@ -117,7 +117,7 @@ module _ (jobs : List JobParts) where
 
   -- The fault of a list of jobs, where there is room.
   pub list_fault : (room : ℕ) (fault : KeptFault) → outputs_of jobs ≤ room
-      → HasJobsFault jobs fault → HasListFault jobs room fault
+      → HasFirstJobFault jobs fault → HasJobListFault jobs room fault
   list_fault room (Circuit it) fits is = (fits, is)
   list_fault room BadDigit fits is = (fits, is)
   list_fault room WrongLength fits is = (fits, is)

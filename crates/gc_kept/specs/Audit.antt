@@ -29,11 +29,11 @@ pub record IsAuditOf (g : GarblingWith) (bytes : List ℕ) (version : Version)
 
 -- The fault of an audit: the AND gates are numbered from another number on, then the first fault of bytes that are no
 -- garbled file. Memory may be missing instead.
-abbrev pub HasGarbledFault : GarblingWith → List ℕ → KeptFault → Type 0
-HasGarbledFault g bytes BadArgument = g.first ≢ 0
-HasGarbledFault g bytes (File fault) =
+abbrev pub HasGarbledAuditFault : GarblingWith → List ℕ → KeptFault → Type 0
+HasGarbledAuditFault g bytes BadArgument = g.first ≢ 0
+HasGarbledAuditFault g bytes (File fault) =
     (g.first ≡ 0) × (fault ≢ file.Memory → FirstFault bytes fault)
-HasGarbledFault g bytes _ = ⊥
+HasGarbledAuditFault g bytes _ = ⊥
 
 -- The same of a label file: the bytes are one of this index, of which this is found.
 pub record IsLabelsAuditOf {A : Type 0} (g : GarblingWith) (bytes : List ℕ) (index : ℕ)
@@ -45,9 +45,9 @@ pub record IsLabelsAuditOf {A : Type 0} (g : GarblingWith) (bytes : List ℕ) (i
   pub found : IsVerdictWith g.circuit g.offset (slice_index g.garbling.zero_labels) parts verdict
 
 -- The fault of such an audit.
-abbrev pub HasLabelsFault : GarblingWith → List ℕ → KeptFault → Type 0
-HasLabelsFault g bytes BadArgument = g.first ≢ 0
-HasLabelsFault g bytes (File fault) =
+abbrev pub HasLabelsAuditFault : GarblingWith → List ℕ → KeptFault → Type 0
+HasLabelsAuditFault g bytes BadArgument = g.first ≢ 0
+HasLabelsAuditFault g bytes (File fault) =
     (g.first ≡ 0) × (fault ≢ file.Memory → FirstLabelFault bytes fault)
-HasLabelsFault g bytes (Evaluation fault) = (g.first ≡ 0) × (fault ≡ eval.Memory)
-HasLabelsFault g bytes _ = ⊥
+HasLabelsAuditFault g bytes (Evaluation fault) = (g.first ≡ 0) × (fault ≡ eval.Memory)
+HasLabelsAuditFault g bytes _ = ⊥

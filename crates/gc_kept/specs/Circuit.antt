@@ -7,7 +7,7 @@ use Rattle.gc_kept.specs.declared.fault.KeptFault.{KeptFault}
 use Rattle.gc_kept.specs.declared.fault.KeptFault.TheVariants.{Circuit, Memory}
 
 -- The fault of a text: its first fault, or memory is missing.
-abbrev pub HasTextFault : List ℕ → KeptFault → Type 0
-HasTextFault text (Circuit fault) = fault ≢ read.Memory → FirstFault (tokens text) fault
-HasTextFault text Memory = Unit {0}
-HasTextFault text _ = ⊥
+abbrev pub HasCircuitTextFault : List ℕ → KeptFault → Type 0
+HasCircuitTextFault text (Circuit fault) = fault ≢ read.Memory → FirstFault (tokens text) fault
+HasCircuitTextFault text Memory = Unit {0}
+HasCircuitTextFault text _ = ⊥

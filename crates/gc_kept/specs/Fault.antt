@@ -1,8 +1,8 @@
--- The numbers and names of faults.
-use Rattle.std.specs.Prelude.{ℕ, List, codes}
+-- The numbers of faults.
+use Rattle.std.specs.Prelude.{ℕ}
 use Rattle.gc_netlist.specs.Fault as read
 use Rattle.gc_file.specs.Fault as held
-use Rattle.gc_job.specs.Fault.{bind_code_of, bind_name_of, eval_code_of, eval_name_of}
+use Rattle.gc_job.specs.Fault.{bind_code_of, eval_code_of}
 use Rattle.gc_kept.specs.declared.fault.KeptFault.{KeptFault}
 use Rattle.gc_kept.specs.declared.fault.KeptFault.TheVariants.{Circuit, BadDigit, WrongLength, Garbling, File, Binding, Evaluation, BadArgument, SmallBuffer, Memory, WrongSize}
 
@@ -18,16 +18,3 @@ code_of BadArgument = 60
 code_of SmallBuffer = 61
 code_of Memory = 62
 code_of WrongSize = 66
-
-abbrev pub name_of : KeptFault → List ℕ
-name_of (Circuit fault) = read.name_of fault
-name_of BadDigit = codes "BadDigit"
-name_of WrongLength = codes "WrongLength"
-name_of Garbling = codes "Memory"
-name_of (File fault) = held.name_of fault
-name_of (Binding fault) = bind_name_of fault
-name_of (Evaluation fault) = eval_name_of fault
-name_of BadArgument = codes "BadArgument"
-name_of SmallBuffer = codes "SmallBuffer"
-name_of Memory = codes "Memory"
-name_of WrongSize = codes "WrongSize"

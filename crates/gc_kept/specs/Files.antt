@@ -55,35 +55,35 @@ pub record IsDealtWith (c : Netlist) (offset : ℕ) (zero_label : ℕ → ℕ) (
   pub count : written ≡ length (label_file (label_parts_with c offset zero_label index bits))
 
 -- The fault of dealing: no such value, then that of the bits, then that of writing the file.
-pub data HasDealFaultWith (c : Netlist) (offset : ℕ) (zero_label : ℕ → ℕ) (index : ℕ)
+pub data HasDealtFaultWith (c : Netlist) (offset : ℕ) (zero_label : ℕ → ℕ) (index : ℕ)
     (bytes : List ℕ) (room written : ℕ) : KeptFault → Type 0 where
   no_value : length c.input_widths ≤ index
-      → HasDealFaultWith c offset zero_label index bytes room written (Binding bind.NoSuchValue)
+      → HasDealtFaultWith c offset zero_label index bytes room written (Binding bind.NoSuchValue)
   of_bits : (width : ℕ) (fault : KeptFault) → slice_get c.input_widths index ≡ Some width
       → HasBitsFault bytes width fault
-      → HasDealFaultWith c offset zero_label index bytes room written fault
+      → HasDealtFaultWith c offset zero_label index bytes room written fault
   of_file : (bits : List Bool) (fault : KeptFault) → bytes ≡ map bit_number bits
       → slice_get c.input_widths index ≡ Some (length bits)
       → HasWriteFault (label_file (label_parts_with c offset zero_label index bits)) room written
       fault
-      → HasDealFaultWith c offset zero_label index bytes room written fault
+      → HasDealtFaultWith c offset zero_label index bytes room written fault
 
 -- The same under a seed,
 abbrev pub IsDealtAt : Netlist → List ℕ → ℕ → List ℕ → List ℕ → List ℕ → ℕ → Type 0
 IsDealtAt c seed index bytes old new written =
     IsDealtWith c (offset_of seed) (input_label_of seed) index bytes old new written
 
-abbrev pub HasDealFault : Netlist → List ℕ → ℕ → List ℕ → ℕ → ℕ → KeptFault → Type 0
-HasDealFault c seed index bytes room written fault =
-    HasDealFaultWith c (offset_of seed) (input_label_of seed) index bytes room written fault
+abbrev pub HasDealtFault : Netlist → List ℕ → ℕ → List ℕ → ℕ → ℕ → KeptFault → Type 0
+HasDealtFault c seed index bytes room written fault =
+    HasDealtFaultWith c (offset_of seed) (input_label_of seed) index bytes room written fault
 
 -- and of a garbling.
 abbrev pub IsDealtFrom : GarblingWith → ℕ → List ℕ → List ℕ → List ℕ → ℕ → Type 0
 IsDealtFrom g index bytes old new written =
     IsDealtWith g.circuit g.offset (slice_index g.garbling.zero_labels) index bytes old new written
 
-abbrev pub HasDealFaultFrom : GarblingWith → ℕ → List ℕ → ℕ → ℕ → KeptFault → Type 0
-HasDealFaultFrom g index bytes room written fault =
-    HasDealFaultWith g.circuit g.offset (slice_index g.garbling.zero_labels) index bytes room
+abbrev pub HasDealtFaultFrom : GarblingWith → ℕ → List ℕ → ℕ → ℕ → KeptFault → Type 0
+HasDealtFaultFrom g index bytes room written fault =
+    HasDealtFaultWith g.circuit g.offset (slice_index g.garbling.zero_labels) index bytes room
     written
     fault

@@ -25,13 +25,13 @@ pub record AreAllGarbledAt (garblings : List GarblingWith) (version : Version)
 
 -- The fault of writing them: the AND gates of some aren't numbered from 0 on, else the buffer has too little room for
 -- all files. Memory may be missing instead.
-abbrev pub HasFilesFault : List GarblingWith → Version → ℕ → KeptFault → Type 0
-HasFilesFault garblings version room BadArgument = ¬ AreFromZero garblings
-HasFilesFault garblings version room SmallBuffer =
+abbrev pub HasAllGarbledFault : List GarblingWith → Version → ℕ → KeptFault → Type 0
+HasAllGarbledFault garblings version room BadArgument = ¬ AreFromZero garblings
+HasAllGarbledFault garblings version room SmallBuffer =
     AreFromZero garblings × (room < length (files_of version garblings))
-HasFilesFault garblings version room Memory =
+HasAllGarbledFault garblings version room Memory =
     AreFromZero garblings × (length (files_of version garblings) ≤ room)
-HasFilesFault garblings version room _ = ⊥
+HasAllGarbledFault garblings version room _ = ⊥
 
 -- The bytes of a garbling's file before its trailer.
 abbrev pub body_of : Version → GarblingWith → List ℕ

@@ -15,7 +15,7 @@ use Rattle.gc_job.specs.Evaluate.{IsEvaluated}
 use Rattle.gc_kept.specs.declared.fault.KeptFault.{KeptFault}
 use Rattle.gc_kept.specs.declared.fault.KeptFault.TheVariants.{File, Binding, Evaluation, SmallBuffer, Memory}
 use Rattle.gc_kept.specs.Files.{IsFileAt}
-use Rattle.gc_kept.specs.LabelFiles.{AreLabelFiles, HasLabelFilesFault}
+use Rattle.gc_kept.specs.LabelFiles.{AreJoinedFiles, HasJoinedFilesFault}
 
 -- The job is that of the circuit, the garbled file and the label files that these bytes are.
 pub record IsBoundJob (c : Netlist) (garbled labels lengths : List ℕ) (job : JobParts)
@@ -23,21 +23,21 @@ pub record IsBoundJob (c : Netlist) (garbled labels lengths : List ℕ) (job : J
   pub parts : GarbledParts
   pub garbled_file : IsGarbledFile garbled parts
   pub files : List LabelFileParts
-  pub label_files : AreLabelFiles labels lengths files
+  pub label_files : AreJoinedFiles labels lengths files
   pub bound : IsBound c parts files job
 
 -- The fault of such bytes: the first of the garbled file, then that of the label files, then the first of binding them.
 -- Memory may be missing instead.
-pub data HasJobFault (c : Netlist) (garbled labels lengths : List ℕ) : KeptFault → Type 0 where
+pub data HasKeptJobFault (c : Netlist) (garbled labels lengths : List ℕ) : KeptFault → Type 0 where
   of_garbled : (fault : FileFault) → (fault ≢ file.Memory → FirstFault garbled fault)
-      → HasJobFault c garbled labels lengths (File fault)
+      → HasKeptJobFault c garbled labels lengths (File fault)
   of_labels : (parts : GarbledParts) (fault : KeptFault) → IsGarbledFile garbled parts
-      → HasLabelFilesFault labels lengths fault → HasJobFault c garbled labels lengths fault
+      → HasJoinedFilesFault labels lengths fault → HasKeptJobFault c garbled labels lengths fault
   of_binding : (parts : GarbledParts) (files : List LabelFileParts) (fault : BindFault)
-      → IsGarbledFile garbled parts → AreLabelFiles labels lengths files
+      → IsGarbledFile garbled parts → AreJoinedFiles labels lengths files
       → (fault ≢ bind.Memory → FirstBindFault c parts files fault)
-      → HasJobFault c garbled labels lengths (Binding fault)
-  want : HasJobFault c garbled labels lengths Memory
+      → HasKeptJobFault c garbled labels lengths (Binding fault)
+  want : HasKeptJobFault c garbled labels lengths Memory
 
 -- The buffer begins with the output bits that an evaluation of the job decodes to.
 pub record AreEvaluated (job : JobParts) (old new : List ℕ) : Type 0 where

@@ -51,12 +51,12 @@ pub record IsFirstFault (jobs : List JobParts) (fault : EvalFault) : Type 0 wher
   pub before : AreBitsOf (take place jobs) bits
 
 -- The fault of evaluating jobs: that of the first that has one. Memory may be missing for all bits instead.
-abbrev pub HasJobsFault : List JobParts → KeptFault → Type 0
-HasJobsFault jobs (Evaluation fault) = IsFirstFault jobs fault
-HasJobsFault jobs Memory = Unit {0}
-HasJobsFault jobs _ = ⊥
+abbrev pub HasFirstJobFault : List JobParts → KeptFault → Type 0
+HasFirstJobFault jobs (Evaluation fault) = IsFirstFault jobs fault
+HasFirstJobFault jobs Memory = Unit {0}
+HasFirstJobFault jobs _ = ⊥
 
 -- The same of evaluating them to a buffer: first of all it has too little room.
-abbrev pub HasListFault : List JobParts → ℕ → KeptFault → Type 0
-HasListFault jobs room SmallBuffer = room < outputs_of jobs
-HasListFault jobs room fault = (outputs_of jobs ≤ room) × HasJobsFault jobs fault
+abbrev pub HasJobListFault : List JobParts → ℕ → KeptFault → Type 0
+HasJobListFault jobs room SmallBuffer = room < outputs_of jobs
+HasJobListFault jobs room fault = (outputs_of jobs ≤ room) × HasFirstJobFault jobs fault

@@ -14,7 +14,7 @@ abbrev pub IsOwnFile : LabelFileParts → Type 0
 IsOwnFile file = IsLabelFile (label_file file) file
 
 -- The bytes are these label files, one after another, and these are the numbers of their bytes.
-pub record AreLabelFiles (bytes lengths : List ℕ) (files : List LabelFileParts) : Type 0 where
+pub record AreJoinedFiles (bytes lengths : List ℕ) (files : List LabelFileParts) : Type 0 where
   pub spelled : bytes ≡ flat_map label_file files
   pub lengths_of : lengths ≡ map file_length files
   pub whole : All IsOwnFile files
@@ -31,9 +31,9 @@ pub record HasFaultyFile (bytes lengths : List ℕ) (fault : FileFault) : Type 0
 
 -- The fault of such bytes: the lengths don't add up to theirs, else the first fault of a file. Memory may be missing
 -- instead.
-abbrev pub HasLabelFilesFault : List ℕ → List ℕ → KeptFault → Type 0
-HasLabelFilesFault bytes lengths WrongSize = length bytes ≢ sum lengths
-HasLabelFilesFault bytes lengths (File fault) =
+abbrev pub HasJoinedFilesFault : List ℕ → List ℕ → KeptFault → Type 0
+HasJoinedFilesFault bytes lengths WrongSize = length bytes ≢ sum lengths
+HasJoinedFilesFault bytes lengths (File fault) =
     (length bytes ≡ sum lengths) × (fault ≢ file.Memory → HasFaultyFile bytes lengths fault)
-HasLabelFilesFault bytes lengths Memory = Unit {0}
-HasLabelFilesFault bytes lengths _ = ⊥
+HasJoinedFilesFault bytes lengths Memory = Unit {0}
+HasJoinedFilesFault bytes lengths _ = ⊥

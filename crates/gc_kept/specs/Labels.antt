@@ -45,14 +45,14 @@ pub record IsFromLabels (c : Netlist) (offset zero_labels : List ℕ) (first : �
 
 -- The fault of such a garbling: there are other labels than one for each input wire, then the offset has the colour 0,
 -- or an AND number is too large. Memory may be missing instead.
-abbrev pub HasGarbleFault : Netlist → List ℕ → List ℕ → ℕ → KeptFault → Type 0
-HasGarbleFault c offset zero_labels first WrongSize = length zero_labels ≢ 16 * input_wires c
-HasGarbleFault c offset zero_labels first BadArgument =
+abbrev pub HasFromLabelsFault : Netlist → List ℕ → List ℕ → ℕ → KeptFault → Type 0
+HasFromLabelsFault c offset zero_labels first WrongSize = length zero_labels ≢ 16 * input_wires c
+HasFromLabelsFault c offset zero_labels first BadArgument =
     (length zero_labels ≡ 16 * input_wires c)
     × ((colour (label_of_bytes offset) ≡ false) ⊎ (¬ (first + and_count c ≤ 2 ^ 62)))
-HasGarbleFault c offset zero_labels first Garbling = Unit {0}
-HasGarbleFault c offset zero_labels first Memory = Unit {0}
-HasGarbleFault c offset zero_labels first _ = ⊥
+HasFromLabelsFault c offset zero_labels first Garbling = Unit {0}
+HasFromLabelsFault c offset zero_labels first Memory = Unit {0}
+HasFromLabelsFault c offset zero_labels first _ = ⊥
 
 -- The first wire of an output value.
 abbrev pub first_output_of : Netlist → ℕ → ℕ
@@ -64,7 +64,7 @@ zero_labels_from g from count = take count (drop from g.garbling.zero_labels)
 
 -- Two buffers begin with both labels of each wire of a value, which has one of these widths and begins at this wire:
 -- the one with the zero labels, and the other with their sums with the offset.
-pub record AreLabelsOf (g : GarblingWith) (widths : List ℕ) (index from : ℕ)
+pub record AreValueLabels (g : GarblingWith) (widths : List ℕ) (index from : ℕ)
     (zero_old zero_new one_old one_new : List ℕ) : Type 0 where
   pub width : ℕ
   pub at : slice_get widths index ≡ Some width
@@ -74,13 +74,13 @@ pub record AreLabelsOf (g : GarblingWith) (widths : List ℕ) (index from : ℕ)
       one_old one_new
 
 -- The fault of such labels: there is no such value, or a buffer has too little room.
-abbrev pub HasValueFault : List ℕ → ℕ → ℕ → ℕ → KeptFault → Type 0
-HasValueFault widths index zero_room one_room (Binding fault) =
+abbrev pub HasValueLabelsFault : List ℕ → ℕ → ℕ → ℕ → KeptFault → Type 0
+HasValueLabelsFault widths index zero_room one_room (Binding fault) =
     (fault ≡ bind.NoSuchValue) × (length widths ≤ index)
-HasValueFault widths index zero_room one_room SmallBuffer =
+HasValueLabelsFault widths index zero_room one_room SmallBuffer =
     (width : ℕ) × (slice_get widths index ≡ Some width)
     × ((zero_room < 16 * width) ⊎ (one_room < 16 * width))
-HasValueFault widths index zero_room one_room _ = ⊥
+HasValueLabelsFault widths index zero_room one_room _ = ⊥
 
 -- The bytes are rows and labels of the input wires, and the buffer begins with the active labels of the output wires of
 -- an evaluation of them, AND gates numbered from `first` on.

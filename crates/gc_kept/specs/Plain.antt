@@ -19,7 +19,7 @@ pub record ArePlainOutputs (c : Netlist) (inputs old new : List ℕ) : Type 0 wh
 
 -- The fault of such an evaluation: the buffer has too little room, then that of the input bits. Memory may be missing
 -- instead.
-abbrev pub HasPlainFault : Netlist → List ℕ → ℕ → KeptFault → Type 0
-HasPlainFault c inputs room SmallBuffer = room < output_wires c
-HasPlainFault c inputs room fault =
+abbrev pub HasPlainBufferFault : Netlist → List ℕ → ℕ → KeptFault → Type 0
+HasPlainBufferFault c inputs room SmallBuffer = room < output_wires c
+HasPlainBufferFault c inputs room fault =
     (output_wires c ≤ room) × HasBitsFault inputs (input_wires c) fault

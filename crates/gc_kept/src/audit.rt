@@ -1,7 +1,7 @@
 //! Comparing files in memory with a garbling.
 
 ghost use Rattle.std.specs.Prelude.{IfOk, IfErr};
-ghost use Rattle.gc_kept.specs.Audit.{IsAuditOf, HasGarbledFault, IsLabelsAuditOf, HasLabelsFault};
+ghost use Rattle.gc_kept.specs.Audit.{IsAuditOf, HasGarbledAuditFault, IsLabelsAuditOf, HasLabelsAuditFault};
 
 use crate::fault::KeptFault;
 use crate::garbling::KeptGarbling;
@@ -15,7 +15,7 @@ impl KeptGarbling {
     /// what is found. It refuses a garbling whose AND gates aren't numbered from 0 on (60).
     pub fn audit(&self, alloc: Global, file: &[u8]) -> Result<(Version, GarbledAudit), KeptFault>
         ensures ok { IfOk result (λ found. IsAuditOf self.now file.now found.0 found.1) }
-        ensures fault { IfErr result (HasGarbledFault self.now file.now) }
+        ensures fault { IfErr result (HasGarbledAuditFault self.now file.now) }
     {
         if !self.is_from_zero() {
             return Err(KeptFault::BadArgument);
@@ -36,7 +36,7 @@ impl KeptGarbling {
         file: &[u8],
     ) -> Result<(u32, LabelsVerdict<Global>), KeptFault>
         ensures ok { IfOk result (λ found. IsLabelsAuditOf self.now file.now found.0 found.1) }
-        ensures fault { IfErr result (HasLabelsFault self.now file.now) }
+        ensures fault { IfErr result (HasLabelsAuditFault self.now file.now) }
     {
         if !self.is_from_zero() {
             return Err(KeptFault::BadArgument);

@@ -5,7 +5,7 @@ ghost use Rattle.sha2.specs.Sha256.{sha256};
 ghost use Rattle.gc_netlist.specs.Circuit.{IsLawful};
 ghost use Rattle.gc_netlist.specs.Canon.{canonical_text};
 ghost use Rattle.gc_netlist.specs.Spelling.{Spells};
-ghost use Rattle.gc_kept.specs.Circuit.{HasTextFault};
+ghost use Rattle.gc_kept.specs.Circuit.{HasCircuitTextFault};
 
 use crate::fault::KeptFault;
 use gc_circuit::Circuit;
@@ -76,7 +76,7 @@ impl KeptCircuit {
     /// Reads a circuit, as [`Circuit::read`] does, and takes its digest.
     pub fn read(alloc: Global, text: &[u8]) -> Result<KeptCircuit, KeptFault>
         ensures ok { IfOk result (λ c. IsLawful c × Spells text.now c) }
-        ensures fault { IfErr result (HasTextFault text.now) }
+        ensures fault { IfErr result (HasCircuitTextFault text.now) }
     {
         let circuit = Circuit::read(alloc, text)?;
         let shared = Arc::new(alloc, Digested::new(circuit))?;

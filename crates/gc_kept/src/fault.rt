@@ -1,14 +1,12 @@
 //! Why a call has no result.
 
 ghost use Rattle.std.specs.Prelude.{◌≡◌, ◌<◌};
-ghost use Rattle.gc_kept.specs.Fault.{code_of, name_of};
+ghost use Rattle.gc_kept.specs.Fault.{code_of};
 
 use gc_circuit::ReadFault;
 use gc_file::FileFault;
 use gc_job::{BindFault, EvalFault};
 use std::alloc::{AllocError, AllocFailed};
-use std::error::Error;
-use std::fmt;
 
 /// Why a call has no result: a fault of the layers below, one that has the number of such a fault, or one of the four,
 /// from 60 on, that only callers in other languages meet.
@@ -60,39 +58,7 @@ impl KeptFault {
             KeptFault::WrongSize => 66,
         }
     }
-
-    /// The name of the fault, as users see it.
-    pub fn name(self) -> &'static str
-        ensures { result.now ≡ name_of self }
-    {
-        match self {
-            KeptFault::Circuit(fault) => fault.name(),
-            KeptFault::BadDigit => "BadDigit",
-            KeptFault::WrongLength => "WrongLength",
-            KeptFault::Garbling => "Memory",
-            KeptFault::File(fault) => fault.name(),
-            KeptFault::Binding(fault) => fault.name(),
-            KeptFault::Evaluation(fault) => fault.name(),
-            KeptFault::BadArgument => "BadArgument",
-            KeptFault::SmallBuffer => "SmallBuffer",
-            KeptFault::Memory => "Memory",
-            KeptFault::WrongSize => "WrongSize",
-        }
-    }
 }
-
-/// Writes the name.
-impl fmt::Display for KeptFault {
-    ghost use Rattle.std.specs.Prelude.{Some};
-
-    ghost output = { λ fault. Some (name_of fault) };
-
-    fn fmt<W: fmt::Write>(&self, f: &mut fmt::Formatter<W>) -> fmt::Result {
-        f.write_str(self.name())
-    }
-}
-
-impl Error for KeptFault {}
 
 impl From<AllocError> for KeptFault {
     ghost use Rattle.std.specs.Prelude.{◌≡◌};

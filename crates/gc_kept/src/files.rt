@@ -3,9 +3,9 @@
 ghost use Rattle.std.specs.Prelude.{◌≡◌, ◌≢◌, ◌≤◌, Some, length, slice_get, IfErr, OnOk, OnErr};
 ghost use Rattle.gc_file.specs.LabelFile.{label_file, label_parts_of};
 ghost use Rattle.gc_file.specs.Written.{IsWritten};
-ghost use Rattle.gc_file.specs.Honest.{IsFileSize};
-ghost use Rattle.gc_kept.specs.Files.{IsFileAt, HasRoomFault, HasWriteFault, IsDealtAt, HasDealFault};
-ghost use Rattle.gc_kept.specs.Files.{file_of, IsGarbledAt, HasFileFault};
+ghost use Rattle.gc_file.specs.Honest.{IsFileSize, honest_parts_with, written_part};
+ghost use Rattle.gc_kept.specs.Files.{IsFileAt, HasRoomFault, HasWriteFault, IsDealtAt, HasDealtFault};
+ghost use Rattle.gc_kept.specs.Files.{IsGarbledAt, HasFileFault};
 
 use crate::bits::read_bits;
 use crate::circuit::KeptCircuit;
@@ -13,7 +13,7 @@ use crate::fault::KeptFault;
 use crate::garbling::KeptGarbling;
 use gc_file::sizes::{LABEL, LABEL_HEADER, garbled_size};
 use gc_file::{
-    MemSink, Version, WriteFault, write_garbled_by_digest, write_garbled2_with_offset, write_labels,
+    GarbledSource, MemSink, Trailer, Version, WriteFault, write_garbled_file, write_labels,
 };
 use gc_job::BindFault;
 use gc_label::Seed;
@@ -77,7 +77,7 @@ impl KeptCircuit {
         ensures ok { OnOk result
             (IsDealtAt self.now seed.now index bits.now buffer.old buffer.new written.new) }
         ensures fault { IfErr result
-            (HasDealFault self.now seed.now index bits.now (length buffer.old) written.new) }
+            (HasDealtFault self.now seed.now index bits.now (length buffer.old) written.new) }
         ensures unwritten { OnErr result (buffer.new ≡ buffer.old) }
         ensures unreported { IfErr result (λ fault.
             fault ≢ KeptFault.SmallBuffer → written.new ≡ written.old) }
@@ -150,26 +150,31 @@ impl KeptGarbling {
         let size = self.circuit().garbled_size(version);
         look_for_room(size as usize, buffer, written)?;
         let mut sink = MemSink::new(alloc, None);
-        match self.write_to(&mut sink, version) {
+        match self.write_to(&mut sink, version, Trailer::Written) {
             Ok(_) => copy_file(sink.bytes(), buffer, written),
             Err(_) => Err(KeptFault::Memory),
         }
     }
 
-    /// Writes the garbled file of a version to a sink, as the writers of `gc_file` do.
-    fn write_to(&self, sink: &mut MemSink<Global>, version: Version) -> Result<u64, WriteFault>
-        ensures { IsWritten (file_of self.now version)
+    /// Writes the garbled file of a version to a sink, with its trailer or without.
+    pub(crate) fn write_to(
+        &self,
+        sink: &mut MemSink<Global>,
+        version: Version,
+        trailer: Trailer,
+    ) -> Result<u64, WriteFault>
+        ensures { let g = self.now in IsWritten
+            (written_part trailer (honest_parts_with version g.circuit g.garbling g.offset))
             result (Some sink.old.bytes) (Some sink.new.bytes) }
     {
         self.law_garbled();
-        let circuit = self.circuit.circuit();
-        let digest = self.circuit.digest();
-        let garbling = &self.garbling;
-        match version {
-            Version::One => write_garbled_by_digest(sink, circuit, digest, garbling),
-            Version::Two => {
-                write_garbled2_with_offset(sink, circuit, digest, garbling, self.offset)
-            }
-        }
+        let source = GarbledSource {
+            version,
+            circuit: self.circuit.circuit(),
+            digest: self.circuit.digest(),
+            garbling: &self.garbling,
+            offset: self.offset,
+        };
+        write_garbled_file(sink, &source, trailer)
     }
 }

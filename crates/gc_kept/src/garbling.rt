@@ -5,7 +5,7 @@ ghost use Rattle.gc_label.specs.Label.{bytes_of_label};
 ghost use Rattle.gc_label.specs.Seed.{offset_of};
 ghost use Rattle.gc_half.specs.Garbling.{IsGarbled};
 ghost use Rattle.gc_kept.specs.Garbling.{IsWantOfMemory};
-ghost use Rattle.gc_kept.specs.Labels.{HasGarbleFault, IsFromLabels};
+ghost use Rattle.gc_kept.specs.Labels.{HasFromLabelsFault, IsFromLabels};
 
 use crate::bits::bit_byte;
 use crate::circuit::KeptCircuit;
@@ -80,7 +80,7 @@ impl KeptCircuit {
     ) -> Result<KeptGarbling, KeptFault>
         ensures ok { IfOk result (IsFromLabels self.now offset.now zero_labels.now first) }
         ensures fault { IfErr result
-            (HasGarbleFault self.now offset.now zero_labels.now first) }
+            (HasFromLabelsFault self.now offset.now zero_labels.now first) }
     {
         let circuit = self.circuit();
         if zero_labels.len() != LABEL * circuit.input_wires() as usize {

@@ -3,11 +3,11 @@
 ghost use Rattle.std.specs.Prelude.{◌≡◌, ◌+◌, ◌≤◌, ◌++◌, length, map, flat_map, take, drop, IfOk, IfErr, OnOk, OnErr};
 ghost use Rattle.sha2.specs.Sha256.{sha256};
 ghost use Rattle.gc_kept.specs.Files.{HasRoomFault, IsFileAt, file_of};
-ghost use Rattle.gc_kept.specs.Garblings.{AreAllGarbledAt, AreFromZero, HasFilesFault, body_of, files_of, with_trailer};
+ghost use Rattle.gc_kept.specs.Garblings.{AreAllGarbledAt, AreFromZero, HasAllGarbledFault, body_of, files_of, with_trailer};
 
 use crate::fault::KeptFault;
 use crate::garbling::KeptGarbling;
-use gc_file::{MemSink, Version, write_before_trailer};
+use gc_file::{MemSink, Trailer, Version};
 use gc_lanes::{SIDE_BY_SIDE, digest_eight};
 use std::alloc::Global;
 
@@ -24,7 +24,7 @@ pub fn write_many(
     ensures ok { OnOk result
         (AreAllGarbledAt (map (λ g. g.now) garblings.now) version files.old files.new) }
     ensures fault { IfErr result
-        (HasFilesFault (map (λ g. g.now) garblings.now) version (length files.old)) }
+        (HasAllGarbledFault (map (λ g. g.now) garblings.now) version (length files.old)) }
     ensures unwritten { OnErr result (files.new ≡ files.old) }
 {
     look_at_numbers(garblings)?;
@@ -86,12 +86,8 @@ impl KeptGarbling {
         ensures ok { IfOk result (λ bytes. bytes.items ≡ body_of version self.now) }
         ensures fault { IfErr result (λ fault. fault ≡ KeptFault.Memory) }
     {
-        self.law_garbled();
         let mut sink = MemSink::new(alloc, None);
-        let circuit = self.circuit.circuit();
-        let digest = self.circuit.digest();
-        let garbling = &self.garbling;
-        match write_before_trailer(&mut sink, version, circuit, digest, garbling, self.offset) {
+        match self.write_to(&mut sink, version, Trailer::Omitted) {
             Ok(_) => Ok(sink.into_bytes()),
             Err(_) => Err(KeptFault::Memory),
         }

@@ -4,7 +4,7 @@ ghost use Rattle.std.specs.Prelude.{◌≡◌, ◌↔◌, length, IfOk, IfErr, I
 ghost use Rattle.std.specs.Result.{result_map_both};
 ghost use Rattle.gc_netlist.specs.Circuit.{output_wires};
 ghost use Rattle.gc_job.specs.Evaluate.{IsEvaluated};
-ghost use Rattle.gc_kept.specs.Job.{IsBoundJob, HasJobFault, AreEvaluated, HasEvaluationFault};
+ghost use Rattle.gc_kept.specs.Job.{IsBoundJob, HasKeptJobFault, AreEvaluated, HasEvaluationFault};
 ghost use Rattle.gc_kept.specs.Labels.{AreJobLabels, HasJobLabelsFault};
 
 use crate::bits::write_bits;
@@ -47,7 +47,7 @@ impl KeptCircuit {
         lengths: &[usize],
     ) -> Result<KeptJob, KeptFault>
         ensures ok { IfOk result (IsBoundJob self.now garbled.now labels.now lengths.now) }
-        ensures fault { IfErr result (HasJobFault self.now garbled.now labels.now lengths.now) }
+        ensures fault { IfErr result (HasKeptJobFault self.now garbled.now labels.now lengths.now) }
     {
         let garbled = read_garbled(alloc, garbled)?;
         let files = read_label_files(alloc, labels, lengths)?;

@@ -3,7 +3,7 @@
 ghost use Rattle.std.specs.Prelude.{◌≡◌, ◌+◌, ◌<◌, ◌≤◌, ℕ, length, map, min, take, slice_get, Some, IfOk, IfErr, IfSome, OnOk, OnErr};
 ghost use Rattle.gc_job.specs.Job.{JobParts};
 ghost use Rattle.gc_kept.specs.Files.{HasRoomFault};
-ghost use Rattle.gc_kept.specs.Jobs.{AreAllEvaluated, AreBitsAt, AreBitsOf, AreOnOneCircuit, HasJobsFault, HasListFault, outputs_of};
+ghost use Rattle.gc_kept.specs.Jobs.{AreAllEvaluated, AreBitsAt, AreBitsOf, AreOnOneCircuit, HasFirstJobFault, HasJobListFault, outputs_of};
 
 use crate::bits::write_bits;
 use crate::fault::KeptFault;
@@ -16,9 +16,9 @@ use std::alloc::Global;
 /// job's after another's, to the front of a buffer. Where jobs that follow one another are on one circuit, up to four
 /// of them are evaluated side by side. It refuses a buffer without a byte for each output wire of all jobs (61); else
 /// the fault is that of the first job that has one. After a fault the buffer is as it was.
-pub fn evaluate_many(alloc: Global, jobs: &[&KeptJob], bits: &mut [u8]) -> Result<(), KeptFault>
+pub fn evaluate_list(alloc: Global, jobs: &[&KeptJob], bits: &mut [u8]) -> Result<(), KeptFault>
     ensures ok { OnOk result (AreAllEvaluated (map (λ j. j.now) jobs.now) bits.old bits.new) }
-    ensures fault { IfErr result (HasListFault (map (λ j. j.now) jobs.now) (length bits.old)) }
+    ensures fault { IfErr result (HasJobListFault (map (λ j. j.now) jobs.now) (length bits.old)) }
     ensures unwritten { OnErr result (bits.new ≡ bits.old) }
 {
     look_for_room(jobs, bits)?;
@@ -47,7 +47,7 @@ fn look_for_room(jobs: &[&KeptJob], buffer: &[u8]) -> Result<(), KeptFault>
 /// The bits of the output wires of these jobs, one job's after another's.
 fn bits_of(alloc: Global, jobs: &[&KeptJob]) -> Result<Vec<bool, Global>, KeptFault>
     ensures ok { IfOk result (λ bits. AreBitsOf (map (λ j. j.now) jobs.now) bits.items) }
-    ensures fault { IfErr result (HasJobsFault (map (λ j. j.now) jobs.now)) }
+    ensures fault { IfErr result (HasFirstJobFault (map (λ j. j.now) jobs.now)) }
 {
     let mut bits = Vec::new(alloc);
     let mut next = 0;
@@ -93,7 +93,7 @@ fn add_group(
     requires one { AreOnOneCircuit (map (λ j. j.now) jobs.now) first end }
     requires before { AreBitsOf (take first (map (λ j. j.now) jobs.now)) bits.old.items }
     ensures ok { OnOk result (AreBitsOf (take end (map (λ j. j.now) jobs.now)) bits.new.items) }
-    ensures fault { IfErr result (HasJobsFault (map (λ j. j.now) jobs.now)) }
+    ensures fault { IfErr result (HasFirstJobFault (map (λ j. j.now) jobs.now)) }
 {
     let Four { a, b, c, d } = evaluate_group(alloc, jobs, first, end);
     add(alloc, jobs, first, end, a, bits)?;
@@ -155,7 +155,7 @@ fn add(
     requires before { AreBitsOf (take (min place end) (map (λ j. j.now) jobs.now)) bits.old.items }
     ensures ok { OnOk result
         (AreBitsOf (take (min (place + 1) end) (map (λ j. j.now) jobs.now)) bits.new.items) }
-    ensures fault { IfErr result (HasJobsFault (map (λ j. j.now) jobs.now)) }
+    ensures fault { IfErr result (HasFirstJobFault (map (λ j. j.now) jobs.now)) }
 {
     if place >= end {
         return Ok(());

@@ -3,7 +3,7 @@
 ghost use Rattle.std.specs.Prelude.{◌≡◌, ◌≢◌, ◌+◌, ◌*◌, ◌^◌, ◌<◌, ◌≤◌, ◌++◌, take, length, slice_get, slice_index, Some, IfErr, OnOk, OnErr};
 ghost use Rattle.gc_file.specs.LabelFile.{label_file, label_parts_with, label_magic};
 ghost use Rattle.gc_file.specs.Number.{number_bytes};
-ghost use Rattle.gc_kept.specs.Files.{IsDealtFrom, HasDealFaultFrom};
+ghost use Rattle.gc_kept.specs.Files.{IsDealtFrom, HasDealtFaultFrom};
 ghost use Rattle.gc_kept.specs.Labels.{IsReceivedAt, HasReceivedFault};
 
 use crate::bits::read_bits;
@@ -89,7 +89,7 @@ impl KeptGarbling {
         ensures ok { OnOk result
             (IsDealtFrom self.now index bits.now buffer.old buffer.new written.new) }
         ensures fault { IfErr result
-            (HasDealFaultFrom self.now index bits.now (length buffer.old) written.new) }
+            (HasDealtFaultFrom self.now index bits.now (length buffer.old) written.new) }
         ensures unwritten { OnErr result (buffer.new ≡ buffer.old) }
         ensures unreported { IfErr result (λ fault.
             fault ≢ KeptFault.SmallBuffer → written.new ≡ written.old) }

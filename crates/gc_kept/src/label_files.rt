@@ -1,7 +1,7 @@
 //! Label files that follow one another.
 
 ghost use Rattle.std.specs.Prelude.{◌≡◌, ◌↔◌, IfOk, IfErr, IsTrue, sum};
-ghost use Rattle.gc_kept.specs.LabelFiles.{AreLabelFiles, HasLabelFilesFault};
+ghost use Rattle.gc_kept.specs.LabelFiles.{AreJoinedFiles, HasJoinedFilesFault};
 
 use crate::fault::KeptFault;
 use gc_file::{LabelFile, read_labels};
@@ -28,8 +28,8 @@ pub(crate) fn read_label_files(
     bytes: &[u8],
     lengths: &[usize],
 ) -> Result<Vec<LabelFile<Global>, Global>, KeptFault>
-    ensures ok { IfOk result (λ files. AreLabelFiles bytes.now lengths.now files.items) }
-    ensures fault { IfErr result (HasLabelFilesFault bytes.now lengths.now) }
+    ensures ok { IfOk result (λ files. AreJoinedFiles bytes.now lengths.now files.items) }
+    ensures fault { IfErr result (HasJoinedFilesFault bytes.now lengths.now) }
 {
     if !add_up(lengths, bytes.len()) {
         return Err(KeptFault::WrongSize);

@@ -34,5 +34,5 @@ pub use garbling::KeptGarbling;
 pub use garblings::write_many;
 pub use held::Held;
 pub use job::KeptJob;
-pub use jobs::evaluate_many;
+pub use jobs::evaluate_list;
 pub use version::version_of;

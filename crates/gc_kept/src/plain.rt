@@ -1,7 +1,7 @@
 //! Evaluation in the clear, of bits as bytes.
 
 ghost use Rattle.std.specs.Prelude.{◌≡◌, length, map, flat_map, sum, IfOk, IfErr, OnOk, OnErr};
-ghost use Rattle.gc_kept.specs.Plain.{ArePlainOutputs, HasPlainFault};
+ghost use Rattle.gc_kept.specs.Plain.{ArePlainOutputs, HasPlainBufferFault};
 
 use crate::bits::{read_bits, write_bits};
 use crate::circuit::KeptCircuit;
@@ -37,7 +37,7 @@ impl KeptCircuit {
     /// wrong number of bits (16), and a byte other than 0 and 1 (15). After a fault the buffer is as it was.
     pub fn plain(&self, alloc: Global, bits: &[u8], outputs: &mut [u8]) -> Result<(), KeptFault>
         ensures ok { OnOk result (ArePlainOutputs self.now bits.now outputs.old outputs.new) }
-        ensures fault { IfErr result (HasPlainFault self.now bits.now (length outputs.old)) }
+        ensures fault { IfErr result (HasPlainBufferFault self.now bits.now (length outputs.old)) }
         ensures unwritten { OnErr result (outputs.new ≡ outputs.old) }
     {
         let circuit = self.circuit();

@@ -8,7 +8,7 @@ ghost use Rattle.gc_half.specs.Garbling.{decode_bits_of};
 ghost use Rattle.gc_file.specs.GarbledFile.{row_bytes};
 ghost use Rattle.gc_audit.specs.Labels.{first_wire_of};
 ghost use Rattle.gc_kept.specs.Files.{IsFileAt, HasRoomFault};
-ghost use Rattle.gc_kept.specs.Labels.{AreLabelsOf, HasValueFault, first_output_of, zero_labels_from};
+ghost use Rattle.gc_kept.specs.Labels.{AreValueLabels, HasValueLabelsFault, first_output_of, zero_labels_from};
 
 use crate::bits::bit_byte;
 use crate::fault::KeptFault;
@@ -42,9 +42,9 @@ impl KeptGarbling {
     /// the zero labels, and the labels that stand for 1. It refuses an index without a value (42), and a buffer that is
     /// too small (61).
     pub fn input_labels(&self, index: u32, zero: &mut [u8], one: &mut [u8]) -> Result<(), KeptFault>
-        ensures ok { OnOk result (AreLabelsOf self.now self.now.circuit.input_widths index
+        ensures ok { OnOk result (AreValueLabels self.now self.now.circuit.input_widths index
             (first_wire_of self.now.circuit index) zero.old zero.new one.old one.new) }
-        ensures fault { IfErr result (HasValueFault self.now.circuit.input_widths index
+        ensures fault { IfErr result (HasValueLabelsFault self.now.circuit.input_widths index
             (length zero.old) (length one.old)) }
         ensures zero_unwritten { OnErr result (zero.new ≡ zero.old) }
         ensures one_unwritten { OnErr result (one.new ≡ one.old) }
@@ -65,9 +65,9 @@ impl KeptGarbling {
         zero: &mut [u8],
         one: &mut [u8],
     ) -> Result<(), KeptFault>
-        ensures ok { OnOk result (AreLabelsOf self.now self.now.circuit.output_widths index
+        ensures ok { OnOk result (AreValueLabels self.now self.now.circuit.output_widths index
             (first_output_of self.now.circuit index) zero.old zero.new one.old one.new) }
-        ensures fault { IfErr result (HasValueFault self.now.circuit.output_widths index
+        ensures fault { IfErr result (HasValueLabelsFault self.now.circuit.output_widths index
             (length zero.old) (length one.old)) }
         ensures zero_unwritten { OnErr result (zero.new ≡ zero.old) }
         ensures one_unwritten { OnErr result (one.new ≡ one.old) }

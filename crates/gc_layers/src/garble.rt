@@ -27,7 +27,8 @@ use std::thread::Threads;
 ///
 /// Each gate is reported to the observer once, by the worker that takes it and before that worker garbles it; the
 /// calling thread is worker 0. It never waits for a helper: where it has nothing else to garble, it garbles gates that
-/// helpers hold, and doesn't report them. Then it garbles all that comes alone, for half a million AND gates.
+/// helpers hold, and doesn't report them. Then it garbles alone until their blocks are back, and where that takes long
+/// for half a million AND gates.
 pub fn garble_by_layers<
     A: Allocator + Copy + Send + Sync,
     C: Allocator + Sync,

@@ -1,5 +1,5 @@
--- The numbers and names of the faults of reading.
-use Rattle.std.specs.Prelude.{ℕ, List, codes}
+-- The numbers of the faults of reading.
+use Rattle.std.specs.Prelude.{ℕ}
 use Rattle.gc_netlist.specs.declared.fault.ReadFault.{ReadFault}
 use Rattle.gc_netlist.specs.declared.fault.ReadFault.TheVariants.{Truncated, BadNumber, TooLarge, BadShape, UnknownOperation, BadConstant, NoSuchWire, Unset, SetTwice, OutputUnset, TrailingTokens, WidthsExceedWires, Memory}
 
@@ -17,18 +17,3 @@ code_of OutputUnset = 10
 code_of TrailingTokens = 11
 code_of WidthsExceedWires = 12
 code_of Memory = 13
-
-abbrev pub name_of : ReadFault → List ℕ
-name_of Truncated = codes "Truncated"
-name_of BadNumber = codes "BadNumber"
-name_of TooLarge = codes "TooLarge"
-name_of BadShape = codes "BadShape"
-name_of UnknownOperation = codes "UnknownOperation"
-name_of BadConstant = codes "BadConstant"
-name_of NoSuchWire = codes "NoSuchWire"
-name_of Unset = codes "Unset"
-name_of SetTwice = codes "SetTwice"
-name_of OutputUnset = codes "OutputUnset"
-name_of TrailingTokens = codes "TrailingTokens"
-name_of WidthsExceedWires = codes "WidthsExceedWires"
-name_of Memory = codes "Memory"

@@ -1,5 +1,6 @@
 pub mod Circuit
 pub mod Solution
+pub mod Names
 pub mod Fault
 pub mod Text
 pub mod Spelling

@@ -1,6 +1,8 @@
 ghost use Rattle.std.specs.Prelude.{◌≡◌};
-ghost use Rattle.gc_netlist.specs.Fault.{code_of, name_of};
+ghost use Rattle.gc_netlist.specs.Fault.{code_of};
+ghost use Rattle.gc_netlist.specs.Names.{fault_name};
 
+use crate::names::fault_name;
 use std::alloc::{AllocError, AllocFailed};
 use std::error::Error;
 use std::fmt;
@@ -61,23 +63,9 @@ impl ReadFault {
 
     /// The name of the fault, as users see it.
     pub fn name(self) -> &'static str
-        ensures { result.now ≡ name_of self }
+        ensures { result.now ≡ fault_name (code_of self) }
     {
-        match self {
-            ReadFault::Truncated => "Truncated",
-            ReadFault::BadNumber => "BadNumber",
-            ReadFault::TooLarge => "TooLarge",
-            ReadFault::BadShape => "BadShape",
-            ReadFault::UnknownOperation => "UnknownOperation",
-            ReadFault::BadConstant => "BadConstant",
-            ReadFault::NoSuchWire => "NoSuchWire",
-            ReadFault::Unset => "Unset",
-            ReadFault::SetTwice => "SetTwice",
-            ReadFault::OutputUnset => "OutputUnset",
-            ReadFault::TrailingTokens => "TrailingTokens",
-            ReadFault::WidthsExceedWires => "WidthsExceedWires",
-            ReadFault::Memory => "Memory",
-        }
+        fault_name(self.code())
     }
 }
 
@@ -85,7 +73,7 @@ impl ReadFault {
 impl fmt::Display for ReadFault {
     ghost use Rattle.std.specs.Prelude.{Some};
 
-    ghost output = { λ fault. Some (name_of fault) };
+    ghost output = { λ fault. Some (fault_name (code_of fault)) };
 
     fn fmt<W: fmt::Write>(&self, f: &mut fmt::Formatter<W>) -> fmt::Result {
         f.write_str(self.name())

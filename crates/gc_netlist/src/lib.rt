@@ -9,8 +9,10 @@ mod fault;
 mod gate;
 mod laws;
 mod limits;
+mod names;
 
 pub use fault::ReadFault;
 pub use gate::{Gate, Operation};
 pub use laws::{law_canonical_text, law_reading};
 pub use limits::{MAX_GATES, MAX_VALUES, MAX_WIRES};
+pub use names::fault_name;

@@ -9,7 +9,7 @@ use Rattle.gc_rounds.specs.Views.{counted, gives, given, unfair, seals_in, seale
 use Rattle.gc_rounds.specs.Banks.{BanksSound}
 use Rattle.gc_rounds.specs.Steps.{one_less, newcomer, merged, nobody, starting}
 use Rattle.gc_rounds.specs.Laws.{IsFresh}
-use Rattle.gc_rounds.specs.declared.view.Stand.TheVariants.{Outside}
+use Rattle.gc_rounds.specs.declared.view.Position.TheVariants.{Outside}
 use Rattle.gc_rounds.specs.declared.view.Step.{Step}
 use Rattle.gc_rounds.specs.declared.view.View.{View}
 use Rattle.gc_workers.proofs.Sums.{total-append, total-dealt, total-joined, each-one, each-dealt, each-joined}
@@ -75,7 +75,7 @@ module _ {I : Type 0} (jobs seats : ℕ) where
       bank (suc (suc b)) l = absurd (omega arith)
 
   pub deals : (words : List ℕ) (views : List (View I)) (id : ℕ) (v : View I) (inner : I)
-      → Rule words views → get_elem? views id ≡ some v → 1 < v.seats → v.stand ≡ Outside
+      → Rule words views → get_elem? views id ≡ some v → 1 < v.seats → v.position ≡ Outside
       → Rule words (set views id (one_less v) ++ newcomer v inner ∷ [])
   deals words views id v inner o at several out =
       let left = one_less v in let other = newcomer v inner in let f = o.fits id v at in
@@ -83,7 +83,7 @@ module _ {I : Type 0} (jobs seats : ℕ) where
         wide = o.wide;
         banks = λ b l. let d = o.banks b l in record {
           mark = d.mark;
-          count = omega (arith, totals (λ u. counted b u.stand), d.count);
+          count = omega (arith, totals (λ u. counted b u.position), d.count);
           round = omega (arith, totals (λ u. given b u.steps), d.round);
         };
         sealed = λ r near is. omega (arith, totals (λ u. sealed_in r u.steps), o.sealed r near is);
@@ -107,7 +107,7 @@ module _ {I : Type 0} (jobs seats : ℕ) where
 
   pub joins : (words : List ℕ) (views : List (View I)) (id other : ℕ) (v w : View I)
       (inner spent : I) → Rule words views → get_elem? views id ≡ some v → ¬ (other ≡ id)
-      → get_elem? (set views id (merged v w inner)) other ≡ some w → w.stand ≡ Outside
+      → get_elem? (set views id (merged v w inner)) other ≡ some w → w.position ≡ Outside
       → Rule words (set (set views id (merged v w inner)) other (nobody spent))
   joins words views id other v w inner spent o at apart there out =
       let both = merged v w inner in let none_left = nobody spent in let f = o.fits id v at in
@@ -118,7 +118,7 @@ module _ {I : Type 0} (jobs seats : ℕ) where
         wide = o.wide;
         banks = λ b l. let d = o.banks b l in record {
           mark = d.mark;
-          count = omega (arith, totals (λ u. counted b u.stand), d.count, ap (counted b) out);
+          count = omega (arith, totals (λ u. counted b u.position), d.count, ap (counted b) out);
           round = omega (arith, totals (λ u. given b u.steps), joined (gives b), d.round);
         };
         sealed = λ r near is. omega (arith, seals r, joined (seals_in r), o.sealed r near is);

@@ -6,17 +6,17 @@ use Rattle.gc_workers.specs.declared.TheConstants.{MAX_WORKERS}
 use Rattle.gc_workers.specs.Counts.{total}
 use Rattle.gc_rounds.specs.Words.{count_of, mark_of, round_of, bank_of}
 use Rattle.gc_rounds.specs.Views.{counted, unfair, given, sealed_in}
-use Rattle.gc_rounds.specs.declared.view.Stand.TheVariants.{Inside}
+use Rattle.gc_rounds.specs.declared.view.Position.TheVariants.{Inside}
 use Rattle.gc_rounds.specs.declared.view.View.{View}
 
 module _ {I : Type 0} where
   -- What a view says of the banks is so.
   pub record StandFits (jobs : ℕ) (words : List ℕ) (v : View I) : Type 0 where
     -- A seat inside a round sees a bank whose round it is, and the round has a job.
-    pub sees : (r : ℕ) → v.stand ≡ Inside r
+    pub sees : (r : ℕ) → v.position ≡ Inside r
         → (round_of (slice_index words (bank_of r)) ≡ r) × (r < jobs)
     -- It is counted in at one bank at most, and at none where it is for no seat.
-    pub few : counted 0 v.stand + counted 1 v.stand ≤ v.seats
+    pub few : counted 0 v.position + counted 1 v.position ≤ v.seats
     -- Each exchange that gave a bank to its next round found it sealed with nobody counted in.
     pub fair : total unfair v.steps ≡ 0
     -- A view that stands for no seat is a seat's no more, and gave no bank on and sealed no round.
@@ -27,7 +27,7 @@ module _ {I : Type 0} where
   pub record BankSound (words : List ℕ) (views : List (View I)) (b : ℕ) : Type 0 where
     pub mark : mark_of (slice_index words b) < 2
     -- Its count is the number of seats that are inside or passing there.
-    pub count : total (λ v. counted b v.stand) views ≡ count_of (slice_index words b)
+    pub count : total (λ v. counted b v.position) views ≡ count_of (slice_index words b)
     -- Its round is its number, and twice the times that it was given to its next round.
     pub round : round_of (slice_index words b) ≡ b + 2 * total (λ v. given b v.steps) views
 

@@ -3,7 +3,7 @@ use Rattle.std.specs.Prelude.{◌≡◌, ◌≢◌, ℕ, ◌<◌, true, false}
 use Rattle.gc_rounds.specs.Words.{count_of, mark_of, round_of, bank_of, shut_word}
 use Rattle.gc_rounds.specs.Views.{reached, sealed_in}
 use Rattle.gc_rounds.specs.Steps.{IsOpenIn, recorded}
-use Rattle.gc_rounds.specs.declared.view.Stand.TheVariants.{Outside, Inside, Passing}
+use Rattle.gc_rounds.specs.declared.view.Position.TheVariants.{Outside, Inside, Passing}
 use Rattle.gc_rounds.specs.declared.view.Step.TheVariants.{Enter, Leave, Seal, Reopen}
 use Rattle.gc_rounds.specs.declared.view.View.{View}
 use Rattle.gc_rounds.specs.declared.calls.Entry.{Entry}

@@ -5,8 +5,8 @@ use mathlib.Core.Option.{some}
 use lib.ListN.{get_elem?}
 use Rattle.gc_rounds.specs.Words.{round_of}
 use Rattle.gc_rounds.specs.Steps.{recorded, one_less, newcomer, merged, nobody, starting}
-use Rattle.gc_rounds.specs.declared.view.Stand.{Stand}
-use Rattle.gc_rounds.specs.declared.view.Stand.TheVariants.{Outside}
+use Rattle.gc_rounds.specs.declared.view.Position.{Position}
+use Rattle.gc_rounds.specs.declared.view.Position.TheVariants.{Outside}
 use Rattle.gc_rounds.specs.declared.view.Step.{Step}
 use Rattle.gc_rounds.specs.declared.view.View.{View}
 
@@ -28,10 +28,10 @@ module _ {T I : Type 0} (holds : T → List ℕ → List (View I) → Type 0) wh
   abbrev pub Moves : (I → Type 0) → Type 0
   Moves idle =
       (about : T) (words : List ℕ) (views : List (View I)) (id b n : ℕ) (v : View I)
-      (stand : Stand) (s : Step)
+      (position : Position) (s : Step)
       → holds about words views → get_elem? views id ≡ some v → b < 2
-      → (stand ≡ v.stand) ⊎ idle v.inner → round_of (slice_index words b) ≤ round_of n
-      → holds about (slice_set words b n) (slice_set views id (recorded v stand s))
+      → (position ≡ v.position) ⊎ idle v.inner → round_of (slice_index words b) ≤ round_of n
+      → holds about (slice_set words b n) (slice_set views id (recorded v position s))
 
   -- A seat is dealt.
   abbrev pub Deals : (I → I) → Type 0
@@ -46,6 +46,6 @@ module _ {T I : Type 0} (holds : T → List ℕ → List (View I) → Type 0) wh
       (about : T) (words : List ℕ) (views : List (View I)) (id other : ℕ) (v w : View I)
       → holds about words views → get_elem? views id ≡ some v → ¬ (other ≡ id)
       → get_elem? (slice_set views id (merged v w (both v.inner w.inner))) other ≡ some w
-      → w.stand ≡ Outside → idle w.inner
+      → w.position ≡ Outside → idle w.inner
       → holds about words
       (slice_set (slice_set views id (merged v w (both v.inner w.inner))) other (nobody spent))

@@ -4,8 +4,8 @@ use Rattle.atomic_table.specs.Table.{Me}
 use Rattle.atomic_table.specs.Table as table
 use Rattle.gc_rounds.specs.Words.{mark_of, round_of, bank_of}
 use Rattle.gc_rounds.specs.Views.{reached, sealed_in}
-use Rattle.gc_rounds.specs.declared.view.Stand.{Stand}
-use Rattle.gc_rounds.specs.declared.view.Stand.TheVariants.{Outside, Inside, Passing}
+use Rattle.gc_rounds.specs.declared.view.Position.{Position}
+use Rattle.gc_rounds.specs.declared.view.Position.TheVariants.{Outside, Inside, Passing}
 use Rattle.gc_rounds.specs.declared.view.Step.{Step}
 use Rattle.gc_rounds.specs.declared.view.Step.TheVariants.{Enter, Leave, Seal, Reopen}
 use Rattle.gc_rounds.specs.declared.view.View.{View}
@@ -16,19 +16,19 @@ IsOpenIn r n = (round_of n ≡ r) × (mark_of n ≡ 0)
 
 -- Where a seat is whose entry into round r found this word: inside where the bank is open in the round, and else
 -- passing.
-abbrev pub stand_after : ℕ → ℕ → Stand
-stand_after r found =
+abbrev pub position_after : ℕ → ℕ → Position
+position_after r found =
     if round_of found == r then (if mark_of found == 0 then Inside r else Passing (bank_of r))
     else Passing (bank_of r)
 
 module _ {I : Type 0} where
-  -- the view with this stand, and one step more in its record
-  abbrev pub recorded : View I → Stand → Step → View I
-  recorded v stand s = record {
+  -- the view at this position, and one step more in its record
+  abbrev pub recorded : View I → Position → Step → View I
+  recorded v position s = record {
     jobs = v.jobs;
     all = v.all;
     seats = v.seats;
-    stand = stand;
+    position = position;
     steps = v.steps ++ s ∷ [];
     inner = v.inner;
   }
@@ -47,7 +47,7 @@ module _ {I : Type 0} where
     -- an entry into round r counts the seat in
     abbrev pub entered : ℕ → table.Step S → Me S (View I) → ℕ → Me S (View I) → Type 0
     entered r st m found m' =
-        viewed m found m' (recorded m.0 (stand_after r found) (Enter st.word found))
+        viewed m found m' (recorded m.0 (position_after r found) (Enter st.word found))
         × (m.0.seats ≡ m.0.all → IsOwn m.0 r found)
 
     -- a seat is taken out
@@ -56,12 +56,12 @@ module _ {I : Type 0} where
 
     -- a seat puts the mark on its bank
     abbrev pub sealed : table.Step S → Me S (View I) → ℕ → Me S (View I) → Type 0
-    sealed st m found m' = viewed m found m' (recorded m.0 m.0.stand (Seal st.word found))
+    sealed st m found m' = viewed m found m' (recorded m.0 m.0.position (Seal st.word found))
 
     -- a seat tries to give a bank to its next round, and wins where it found the word that it expected
     abbrev pub tried : table.Step S → Me S (View I) → ℕ → Me S (View I) → Type 0
     tried st m found m' =
-        viewed m found m' (recorded m.0 m.0.stand (Reopen st.word found (found == st.first)))
+        viewed m found m' (recorded m.0 m.0.position (Reopen st.word found (found == st.first)))
 
   -- the view at the opening, which stands for all seats
   abbrev pub starting : ℕ → ℕ → I → View I
@@ -69,7 +69,7 @@ module _ {I : Type 0} where
     jobs = jobs;
     all = seats;
     seats = seats;
-    stand = Outside;
+    position = Outside;
     steps = [];
     inner = inner;
   }
@@ -80,7 +80,7 @@ module _ {I : Type 0} where
     jobs = v.jobs;
     all = v.all;
     seats = v.seats - 1;
-    stand = v.stand;
+    position = v.position;
     steps = v.steps;
     inner = v.inner;
   }
@@ -91,7 +91,7 @@ module _ {I : Type 0} where
     jobs = v.jobs;
     all = v.all;
     seats = 1;
-    stand = Outside;
+    position = Outside;
     steps = [];
     inner = inner;
   }
@@ -102,11 +102,12 @@ module _ {I : Type 0} where
     jobs = v.jobs;
     all = v.all;
     seats = v.seats + w.seats;
-    stand = v.stand;
+    position = v.position;
     steps = v.steps ++ w.steps;
     inner = inner;
   }
 
   -- what is left of a view that was joined to another
   abbrev pub nobody : I → View I
-  nobody inner = record { jobs = 0; all = 0; seats = 0; stand = Outside; steps = []; inner = inner }
+  nobody inner =
+      record { jobs = 0; all = 0; seats = 0; position = Outside; steps = []; inner = inner }

@@ -3,13 +3,13 @@ use Rattle.std.specs.Prelude.{ℕ, ◌+◌, ◌*◌, ◌-◌, ◌%◌, List, if�
 use Rattle.gc_workers.specs.Counts.{total, only}
 use Rattle.gc_rounds.specs.Words.{round_of, bank_of}
 use Rattle.gc_rounds.specs.declared.words.TheConstants.{MARK, ROUND}
-use Rattle.gc_rounds.specs.declared.view.Stand.{Stand}
-use Rattle.gc_rounds.specs.declared.view.Stand.TheVariants.{Outside, Inside, Passing}
+use Rattle.gc_rounds.specs.declared.view.Position.{Position}
+use Rattle.gc_rounds.specs.declared.view.Position.TheVariants.{Outside, Inside, Passing}
 use Rattle.gc_rounds.specs.declared.view.Step.{Step}
 use Rattle.gc_rounds.specs.declared.view.Step.TheVariants.{Load, Store, Claim, Enter, Leave, Seal, Reopen}
 
 -- 1 where the seat is counted in at bank b, and else 0
-abbrev pub counted : ℕ → Stand → ℕ
+abbrev pub counted : ℕ → Position → ℕ
 counted b Outside = 0
 counted b (Inside r) = only b (bank_of r)
 counted b (Passing c) = only b c

@@ -1,7 +1,7 @@
 //! Entering, leaving, sealing and reopening a round. No call here waits or allocates.
 
 ghost use Rattle.std.specs.Prelude.{◌≡◌, ℕ, ◌+◌, ◌<◌};
-ghost use Rattle.gc_rounds.specs.declared.view.Stand.TheVariants.{Outside, Inside};
+ghost use Rattle.gc_rounds.specs.declared.view.Position.TheVariants.{Outside, Inside};
 ghost use Rattle.gc_rounds.specs.Calls.{Enters, EntersAlone, Leaves, Seals, Reopens};
 ghost use Rattle.gc_rounds.specs.Places.{IsPlaceOf, IsSamePlace};
 
@@ -38,7 +38,7 @@ pub enum Reopening {
 pub fn enter<T, I: KeptInner<T>>(words: &Words<T, I>, place: &mut Place<I>, round: u32) -> Entry
     requires place { IsPlaceOf words.now.table_id words.now.key place.old }
     requires round { round < words.now.key.jobs }
-    requires outside { (place.old.me.0.stand ≡ Outside) × (0 < place.old.me.0.seats)
+    requires outside { (place.old.me.0.position ≡ Outside) × (0 < place.old.me.0.seats)
         × I.idle place.old.me.0.inner }
     ensures same { IsSamePlace place.old place.new }
     ensures found { Enters round place.old.me.0 place.new.me.0 result }
@@ -61,7 +61,7 @@ pub fn enter<T, I: KeptInner<T>>(words: &Words<T, I>, place: &mut Place<I>, roun
 /// Leaves the round that the seat is inside.
 pub fn leave<T, I: KeptInner<T>>(words: &Words<T, I>, place: &mut Place<I>, round: u32)
     requires place { IsPlaceOf words.now.table_id words.now.key place.old }
-    requires inside { (place.old.me.0.stand ≡ Inside round) × I.idle place.old.me.0.inner }
+    requires inside { (place.old.me.0.position ≡ Inside round) × I.idle place.old.me.0.inner }
     ensures same { IsSamePlace place.old place.new }
     ensures left { Leaves round place.old.me.0 place.new.me.0 }
 {
@@ -71,7 +71,7 @@ pub fn leave<T, I: KeptInner<T>>(words: &Words<T, I>, place: &mut Place<I>, roun
 /// Seals the round that the seat is inside: nobody enters it any more.
 pub fn seal<T, I: KeptInner<T>>(words: &Words<T, I>, place: &mut Place<I>, round: u32)
     requires place { IsPlaceOf words.now.table_id words.now.key place.old }
-    requires inside { place.old.me.0.stand ≡ Inside round }
+    requires inside { place.old.me.0.position ≡ Inside round }
     ensures same { IsSamePlace place.old place.new }
     ensures sealed { Seals round place.old.me.0 place.new.me.0 }
 {
@@ -85,7 +85,7 @@ pub fn reopen<T, I: KeptInner<T>>(
     round: u32,
 ) -> Reopening
     requires place { IsPlaceOf words.now.table_id words.now.key place.old }
-    requires outside { place.old.me.0.stand ≡ Outside }
+    requires outside { place.old.me.0.position ≡ Outside }
     requires next { round + 2 < MAX_JOBS }
     ensures same { IsSamePlace place.old place.new }
     ensures found { Reopens round place.old.me.0 place.new.me.0 result }

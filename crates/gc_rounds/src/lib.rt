@@ -23,5 +23,5 @@ pub use inner::{Inner, KeptInner};
 pub use rule::Rule;
 pub use seats::{WordTable, deal_place, join_place, open_table};
 pub use steps::{Place, Words};
-pub use view::{Key, Stand, Step, View};
+pub use view::{Key, Position, Step, View};
 pub use words::{MARK, MAX_JOBS, ROUND, stamped};

@@ -1,7 +1,7 @@
 //! The table of the banks: how it is opened, and how its seats are dealt and joined.
 
 ghost use Rattle.std.specs.Prelude.{◌≡◌, ℕ, ◌+◌, ◌-◌, ◌*◌, ◌<◌, ◌≤◌, ◌^◌, [], IfOk, length};
-ghost use Rattle.gc_rounds.specs.declared.view.Stand.TheVariants.{Outside};
+ghost use Rattle.gc_rounds.specs.declared.view.Position.TheVariants.{Outside};
 ghost use Rattle.gc_rounds.specs.Words.{count_of, mark_of, round_of};
 ghost use Rattle.gc_rounds.specs.Steps.{one_less, newcomer, merged, starting};
 ghost use Rattle.gc_rounds.specs.Places.{IsSamePlace, IsTable, IsPlaceOf};
@@ -54,7 +54,7 @@ pub fn open_table<T, I: KeptInner<T>, A: Allocator + Copy>(
 pub fn deal_place<T, I: KeptInner<T>>(words: &Words<T, I>, place: &mut Place<I>) -> Place<I>
     requires place { IsPlaceOf words.now.table_id words.now.key place.old }
     requires several { 1 < place.old.me.0.seats }
-    requires outside { place.old.me.0.stand ≡ Outside }
+    requires outside { place.old.me.0.position ≡ Outside }
     ensures kept { IsSamePlace place.old place.new × (place.new.me.0 ≡ one_less place.old.me.0) }
     ensures given { IsPlaceOf words.now.table_id words.now.key result
         × (result.me ≡ (newcomer place.old.me.0 (I.fresh place.old.me.0.inner), [])) }
@@ -66,7 +66,7 @@ pub fn deal_place<T, I: KeptInner<T>>(words: &Words<T, I>, place: &mut Place<I>)
 pub fn join_place<T, I: KeptInner<T>>(words: &Words<T, I>, place: &mut Place<I>, other: Place<I>)
     requires place { IsPlaceOf words.now.table_id words.now.key place.old }
     requires other { IsPlaceOf words.now.table_id words.now.key other }
-    requires idle { (other.me.0.stand ≡ Outside) × I.idle other.me.0.inner × (other.me.1 ≡ []) }
+    requires idle { (other.me.0.position ≡ Outside) × I.idle other.me.0.inner × (other.me.1 ≡ []) }
     ensures { IsSamePlace place.old place.new
         × (place.new.me.0
         ≡ merged place.old.me.0 other.me.0 (I.both place.old.me.0.inner other.me.0.inner)) }

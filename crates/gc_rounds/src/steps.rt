@@ -1,11 +1,11 @@
 //! The four kinds of atomic step on the word of a bank.
 
 ghost use Rattle.std.specs.Prelude.{◌≡◌, ℕ, ◌+◌, ◌<◌, ◌==◌};
-ghost use Rattle.gc_rounds.specs.declared.view.Stand.TheVariants.{Outside, Inside};
+ghost use Rattle.gc_rounds.specs.declared.view.Position.TheVariants.{Outside, Inside};
 ghost use Rattle.gc_rounds.specs.declared.view.Step.TheVariants.{Enter, Leave, Seal, Reopen};
 ghost use Rattle.gc_rounds.specs.Words.{mark_of, bank_of, shut_word};
 ghost use Rattle.gc_rounds.specs.Views.{counted};
-ghost use Rattle.gc_rounds.specs.Steps.{recorded, stand_after, IsOwn};
+ghost use Rattle.gc_rounds.specs.Steps.{recorded, position_after, IsOwn};
 ghost use Rattle.gc_rounds.specs.Places.{IsPlaceOf, IsSamePlace};
 
 use crate::inner::KeptInner;
@@ -29,12 +29,12 @@ pub(crate) fn count_in<T, I: KeptInner<T>, Q: Asked>(
 ) -> u64
     requires place { IsPlaceOf words.now.table_id words.now.key place.old }
     requires asked { (round ≡ Q.round) × (round < words.now.key.jobs) }
-    requires outside { (place.old.me.0.stand ≡ Outside) × (0 < place.old.me.0.seats)
+    requires outside { (place.old.me.0.position ≡ Outside) × (0 < place.old.me.0.seats)
         × I.idle place.old.me.0.inner }
     ensures same { IsSamePlace place.old place.new }
     ensures shape { mark_of result < 2 }
     ensures view { place.new.me.0
-        ≡ recorded place.old.me.0 (stand_after round result) (Enter (bank_of round) result) }
+        ≡ recorded place.old.me.0 (position_after round result) (Enter (bank_of round) result) }
     ensures alone { place.old.me.0.seats ≡ place.old.me.0.all → IsOwn place.old.me.0 round result }
 {
     words.fetch_add::<CountIn<Q>>(place, (round % 2) as usize, 1)
@@ -47,7 +47,7 @@ pub(crate) fn count_out<T, I: KeptInner<T>>(
     round: u32,
 ) -> u64
     requires place { IsPlaceOf words.now.table_id words.now.key place.old }
-    requires counted { (counted (bank_of round) place.old.me.0.stand ≡ 1)
+    requires counted { (counted (bank_of round) place.old.me.0.position ≡ 1)
         × I.idle place.old.me.0.inner }
     ensures same { IsSamePlace place.old place.new }
     ensures view { place.new.me.0 ≡ recorded place.old.me.0 Outside (Leave (bank_of round) result) }
@@ -62,7 +62,7 @@ pub(crate) fn mark_sealed<T, I: KeptInner<T>>(
     round: u32,
 ) -> u64
     requires place { IsPlaceOf words.now.table_id words.now.key place.old }
-    requires inside { place.old.me.0.stand ≡ Inside round }
+    requires inside { place.old.me.0.position ≡ Inside round }
     ensures same { IsSamePlace place.old place.new }
     ensures view { place.new.me.0
         ≡ recorded place.old.me.0 (Inside round) (Seal (bank_of round) result) }
@@ -78,7 +78,7 @@ pub(crate) fn give_on<T, I: KeptInner<T>>(
     round: u32,
 ) -> u64
     requires place { IsPlaceOf words.now.table_id words.now.key place.old }
-    requires outside { place.old.me.0.stand ≡ Outside }
+    requires outside { place.old.me.0.position ≡ Outside }
     requires next { round + 2 < MAX_JOBS }
     ensures same { IsSamePlace place.old place.new }
     ensures shape { mark_of result < 2 }

@@ -3,7 +3,7 @@
 use std::collections::LinkedList;
 
 /// Where a seat is.
-pub enum Stand {
+pub enum Position {
     Outside,
     /// Counted in, in this round.
     Inside(u32),
@@ -37,7 +37,7 @@ pub struct View<I> {
     pub all: u32,
     /// How many of them this view stands for: 1 for a seat, 0 for a view that was joined to another.
     pub seats: u32,
-    pub stand: Stand,
+    pub position: Position,
     /// Its steps, in order.
     pub steps: LinkedList<Step>,
     /// What else it knows.

@@ -12,5 +12,5 @@ pub use Rattle.gc_netlist.specs.Circuit.{Netlist, IsSetBy, IsLawful, input_wires
 pub use Rattle.gc_gates.specs.Pairs.{is_pair, pairs}
 pub use Rattle.gc_gates.specs.Places.{IsGatePlace}
 pub use Rattle.gc_rounds.specs.declared.view.Key.{Key}
-pub use Rattle.gc_rounds.specs.declared.view.Stand.TheVariants.{Inside, Outside}
+pub use Rattle.gc_rounds.specs.declared.view.Position.TheVariants.{Inside, Outside}
 pub use Rattle.gc_steps.specs.Walks.{made_now}

@@ -43,7 +43,7 @@ ran_then {a = a} p q = record {
   jobs = q.jobs ∙ p.jobs;
   all = q.all ∙ p.all;
   seats = q.seats ∙ p.seats;
-  stand = q.stand ∙ p.stand;
+  position = q.position ∙ p.position;
   about = q.about ∙ p.about;
   hand = q.hand ∙ p.hand;
   made = q.made;
@@ -303,7 +303,7 @@ made_ran lay r g free i low j high v empty =
       jobs = refl;
       all = refl;
       seats = refl;
-      stand = refl;
+      position = refl;
       about = refl;
       hand = sym empty;
       made = refl;
@@ -348,5 +348,5 @@ module _ {J : Type 0} {v w : Seen J} (same : v ≡ w) where
   pub job_same : v.inner.job ≡ w.inner.job
   job_same = ap (λ (x : Seen J). x.inner.job) same
 
-  pub stand_same : v.stand ≡ w.stand
-  stand_same = ap (λ (x : Seen J). x.stand) same
+  pub position_same : v.position ≡ w.position
+  position_same = ap (λ (x : Seen J). x.position) same

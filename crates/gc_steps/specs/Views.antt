@@ -60,7 +60,7 @@ pub record Ran {J : Type 0} (old new : Seen J) (list : List (ℕ × ℕ)) (most 
   pub jobs : new.jobs ≡ old.jobs
   pub all : new.all ≡ old.all
   pub seats : new.seats ≡ old.seats
-  pub stand : new.stand ≡ old.stand
+  pub position : new.position ≡ old.position
   pub about : new.inner.job ≡ old.inner.job
   pub hand : new.inner.hand ≡ old.inner.hand
   pub made : new.inner.made ≡ list
@@ -75,7 +75,7 @@ pub record Stays {J : Type 0} (old new : Seen J) : Type 0 where
   pub jobs : new.jobs ≡ old.jobs
   pub all : new.all ≡ old.all
   pub seats : new.seats ≡ old.seats
-  pub stand : new.stand ≡ old.stand
+  pub position : new.position ≡ old.position
   pub about : new.inner.job ≡ old.inner.job
   pub hand : new.inner.hand ≡ old.inner.hand
 

@@ -2,8 +2,8 @@
 use Rattle.std.specs.Prelude.{ℕ, ◌+◌, ◌*◌, ◌<◌, Bool, true, false}
 use Rattle.gc_steps.specs.declared.answer.Answer.{Answer}
 use Rattle.gc_steps.specs.declared.answer.Answer.TheVariants.{Made, Done, Taken, NotYet}
-use Rattle.gc_steps.specs.declared.walk.Batch.{Batch}
-use Rattle.gc_steps.specs.declared.walk.Batch.TheVariants.{One, Two, Four}
+use Rattle.gc_steps.specs.declared.walk.GateGroup.{GateGroup}
+use Rattle.gc_steps.specs.declared.walk.GateGroup.TheVariants.{One, Two, Four}
 
 -- How many gates a circuit has, how many of them a pass has yet to come to, how many AND gates wait, and whether the
 -- worker learnt of a gate in the pass.
@@ -13,12 +13,12 @@ pub record Progress : Type 0 where
   pub waiting : ℕ
   pub learnt : Bool
 
--- a bound on the batches that are left of a pass
-abbrev pub batches_left : Progress → ℕ
-batches_left walk = 4 * walk.left + walk.waiting
+-- a bound on the groups that are left of a pass
+abbrev pub groups_left : Progress → ℕ
+groups_left walk = 4 * walk.left + walk.waiting
 
--- The gates of a batch are among this number of gates.
-abbrev pub IsWithin : ℕ → Batch → Type 0
+-- The gates of a group are among this number of gates.
+abbrev pub IsWithin : ℕ → GateGroup → Type 0
 IsWithin gates (One a) = a < gates
 IsWithin gates (Two a b) = (a < gates) × (b < gates)
 IsWithin gates (Four a b c d) = (a < gates) × (b < gates) × (c < gates) × (d < gates)

@@ -18,4 +18,4 @@ mod walk;
 pub use answer::Answer;
 pub use jobs::Jobs;
 pub use round::{Prepared, Round};
-pub use walk::{Batch, Walk};
+pub use walk::{GateGroup, Walk};

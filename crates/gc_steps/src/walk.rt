@@ -1,7 +1,7 @@
 //! The order in which a worker steps the gates of a circuit.
 
 ghost use Rattle.std.specs.Prelude.{◌≡◌, ◌+◌, ◌<◌, ◌≤◌, ◌||◌, false, min, IfNone, IfOk, IfSome, length};
-ghost use Rattle.gc_steps.specs.Walks.{IsWithin, batches_left, is_learnt};
+ghost use Rattle.gc_steps.specs.Walks.{IsWithin, groups_left, is_learnt};
 
 use crate::answer::Answer;
 use gc_circuit::{Circuit, Gate};
@@ -12,7 +12,7 @@ use std::marker::Model;
 
 /// Gates to be stepped at once, by their numbers in the file.
 #[derive(Clone, Copy, PartialEq, Eq, Debug)]
-pub enum Batch {
+pub enum GateGroup {
     /// One gate, of any kind.
     One(u32),
     /// Two AND gates, in the order of the walk.
@@ -21,16 +21,16 @@ pub enum Batch {
     Four(u32, u32, u32, u32),
 }
 
-impl Batch {
+impl GateGroup {
     /// Reports each gate to an observer, before the worker of this number steps it.
     pub fn report_to<H: Gatehouse>(self, observer: &H, worker: u32) {
         match self {
-            Batch::One(a) => observer.before(worker, a),
-            Batch::Two(a, b) => {
+            GateGroup::One(a) => observer.before(worker, a),
+            GateGroup::Two(a, b) => {
                 observer.before(worker, a);
                 observer.before(worker, b);
             }
-            Batch::Four(a, b, c, d) => {
+            GateGroup::Four(a, b, c, d) => {
                 observer.before(worker, a);
                 observer.before(worker, b);
                 observer.before(worker, c);
@@ -108,12 +108,12 @@ impl<B: Allocator> Walk<B> {
 
     /// The next gates of the pass, or none where the pass has come to all its gates and none waits. The caller ensures
     /// that the circuit has the gates of the walk.
-    pub fn next<C: Allocator>(&mut self, circuit: &Circuit<C>) -> Option<Batch>
+    pub fn next<C: Allocator>(&mut self, circuit: &Circuit<C>) -> Option<GateGroup>
         requires { self.old.gates ≡ length circuit.now.gates }
-        ensures batch { IfSome result (IsWithin self.old.gates) }
+        ensures group { IfSome result (IsWithin self.old.gates) }
         ensures gates { self.new.gates ≡ self.old.gates }
         ensures learnt { self.new.learnt ≡ self.old.learnt }
-        ensures some { IfSome result (λ _. batches_left self.new < batches_left self.old) }
+        ensures some { IfSome result (λ _. groups_left self.new < groups_left self.old) }
         ensures none { IfNone result ((self.new.left ≡ 0) × (self.new.waiting ≡ 0)) }
     {
         while self.left > 0 {
@@ -125,9 +125,9 @@ impl<B: Allocator> Walk<B> {
             self.next = if gate + 1 < self.gates { gate + 1 } else { 0 };
             self.left -= 1;
             if unknown {
-                let batch = self.meet(gate, circuit.gate(gate));
-                if batch.is_some() {
-                    return batch;
+                let group = self.meet(gate, circuit.gate(gate));
+                if group.is_some() {
+                    return group;
                 }
             }
         }
@@ -135,21 +135,21 @@ impl<B: Allocator> Walk<B> {
     }
 
     /// Gives a gate, or has it wait if it is an AND gate: the fourth comes with the three that wait.
-    fn meet(&mut self, number: u32, gate: Gate) -> Option<Batch>
+    fn meet(&mut self, number: u32, gate: Gate) -> Option<GateGroup>
         requires { number < self.old.gates }
-        ensures batch { IfSome result (IsWithin self.old.gates) }
+        ensures group { IfSome result (IsWithin self.old.gates) }
         ensures gates { self.new.gates ≡ self.old.gates }
         ensures learnt { self.new.learnt ≡ self.old.learnt }
         ensures left { self.new.left ≡ self.old.left }
         ensures waiting { self.new.waiting ≤ self.old.waiting + 1 }
     {
         if !gate.operation.is_and() {
-            return Some(Batch::One(number));
+            return Some(GateGroup::One(number));
         }
         match (self.waiting.first, self.waiting.second, self.waiting.third) {
             (Some(first), Some(second), Some(third)) => {
                 self.waiting = WaitingGates::new();
-                Some(Batch::Four(first.gate, second.gate, third.gate, number))
+                Some(GateGroup::Four(first.gate, second.gate, third.gate, number))
             }
             _ => {
                 self.waiting.push(number, gate.set);
@@ -159,8 +159,8 @@ impl<B: Allocator> Walk<B> {
     }
 
     /// The two gates that have waited longest, or the only one.
-    fn release(&mut self) -> Option<Batch>
-        ensures batch { IfSome result (IsWithin self.old.gates) }
+    fn release(&mut self) -> Option<GateGroup>
+        ensures group { IfSome result (IsWithin self.old.gates) }
         ensures gates { self.new.gates ≡ self.old.gates }
         ensures learnt { self.new.learnt ≡ self.old.learnt }
         ensures left { self.new.left ≡ self.old.left }
@@ -175,14 +175,14 @@ impl<B: Allocator> Walk<B> {
         let first = first?;
         let Some(second) = second else {
             self.waiting = WaitingGates::new();
-            return Some(Batch::One(first.gate));
+            return Some(GateGroup::One(first.gate));
         };
         self.waiting = WaitingGates {
             first: third,
             second: None,
             third: None,
         };
-        Some(Batch::Two(first.gate, second.gate))
+        Some(GateGroup::Two(first.gate, second.gate))
     }
 
     /// Notes what a gate was returned: one that is done is known from now on.

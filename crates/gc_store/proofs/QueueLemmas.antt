@@ -5,8 +5,8 @@ use Rattle.std.proofs.lemmas.List.{same_lists, length-map, get_or-map}
 use Rattle.std.proofs.lemmas.Option.{slice_get_within, slice_get-get_or, get_or_from_slice_get, gets}
 use Rattle.std.proofs.lemmas.List.Sums.{count_by-le-length}
 use Rattle.std.proofs.Math.ListN.{length-replicate}
-use Rattle.gc_store.specs.declared.mark.Mark.{Mark}
-use Rattle.gc_store.specs.declared.mark.Mark.TheVariants as mark
+use Rattle.gc_store.specs.declared.gate_state.GateState.{GateState}
+use Rattle.gc_store.specs.declared.gate_state.GateState.TheVariants as mark
 use Rattle.gc_workers.specs.NumberSet.{Has, Adds, Removes}
 use Rattle.gc_store.specs.Queue.{Standing, is_busy, freed, with_mark, IsQueue}
 use Rattle.gc_half.proofs.ListLemmas.{one_place, slice_get-replicate, count_by-set, count_by-set_more, count_by-set_less, count_by-replicate, count_by-some}
@@ -63,13 +63,14 @@ unopened n countdowns queued count few positive room empty =
 -- ---- freeing all claimed gates
 
 -- from gate n on the claimed gates are free again
-pub record IsFreedFrom (n : ℕ) (was now : List Mark) : Type 0 where
+pub record IsFreedFrom (n : ℕ) (was now : List GateState) : Type 0 where
   pub count : length now ≡ length was
   pub before : (k : ℕ) → k < n → slice_get now k ≡ slice_get was k
-  pub after : (k : ℕ) (m : Mark) → n ≤ k → slice_get was k ≡ Some m
+  pub after : (k : ℕ) (m : GateState) → n ≤ k → slice_get was k ≡ Some m
       → slice_get now k ≡ Some (freed m)
 
-pub freed_all : (n : ℕ) (was now : List Mark) → n ≡ 0 → IsFreedFrom n was now → now ≡ map freed was
+pub freed_all : (n : ℕ) (was now : List GateState) → n ≡ 0 → IsFreedFrom n was now
+    → now ≡ map freed was
 freed_all n was now end h =
     same_lists now (map freed was) (grind (arith, length-map, h.count)) (λ k d within.
     let inside : k < length was = omega (arith, within, h.count) in

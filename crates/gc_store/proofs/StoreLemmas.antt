@@ -7,7 +7,7 @@ use Rattle.gc_half.specs.Garbling.{rows_of, IsGarbled}
 use Rattle.gc_half.specs.OneGate.{first_read, second_read}
 use Rattle.gc_half.proofs.NumberedLemmas.{zero-IsGarbling}
 use Rattle.gc_half.proofs.GarblingLemmas.{IsGarbling-same}
-use Rattle.gc_store.specs.declared.mark.Mark.TheVariants as mark
+use Rattle.gc_store.specs.declared.gate_state.GateState.TheVariants as mark
 use Rattle.gc_store.specs.Queue as queue
 use Rattle.gc_store.proofs.StepLemmas.{set-apart}
 use Rattle.gc_store.proofs.TableLemmas.{state_is, known_label, label_count, finished_tables, sealed_tables, claim_keeps, states-claim, finish_keeps, content-finish}

@@ -5,8 +5,8 @@ use Rattle.std.proofs.lemmas.List.FromFn.{fill_by_all}
 use mathlib.Core.Logic.Iff
 use mathlib.Core.Path.{fun_ext}
 use Rattle.gc_half.specs.Canonical.{no_rows}
-use Rattle.gc_store.specs.declared.mark.Mark.{Mark}
-use Rattle.gc_store.specs.declared.mark.Mark.TheVariants as mark
+use Rattle.gc_store.specs.declared.gate_state.GateState.{GateState}
+use Rattle.gc_store.specs.declared.gate_state.GateState.TheVariants as mark
 use Rattle.gc_store.specs.Opening.{is_below, opening_countdown}
 use Rattle.gc_store.proofs.StepLemmas.{set-apart, and_number-apart, AreSame, known-same, lawful-same, claim-same, reopen-same, known-finish, finish_lawful}
 use Rattle.gc_store.specs.Beginning.{Queues, Tabulates}
@@ -24,7 +24,7 @@ state_is c t i within =
     (length c.gates) i within
 
 -- the states are these where each gate has its own
-pub states_are : (c : Netlist) (labels : List ℕ) (rows : List RowPair) (marks : List Mark)
+pub states_are : (c : Netlist) (labels : List ℕ) (rows : List RowPair) (marks : List GateState)
     (states : List State) → length states ≡ length c.gates
     → ((k : ℕ) → k < length c.gates
     → slice_get states k ≡ Some (state_at c labels rows k (get_or marks k mark.Free)))
@@ -49,7 +49,7 @@ label_count {c = c} {seed = seed} {t = t} kept =
 
 module _ {c : Netlist} {seed : List ℕ} {r : ℕ} {t : Tables} (kept : IsKept c seed r t) where
   -- other marks keep what the tables keep, where the same gates are finished
-  marks_keep : (marks : List Mark) (states : List State) → length marks ≡ length t.marks
+  marks_keep : (marks : List GateState) (states : List State) → length marks ≡ length t.marks
       → states_of c t.zero_labels t.rows marks ≡ states → AreSame (content_of c seed t) states
       → IsKept c seed r (record t { marks = marks })
   marks_keep marks states count are same = record {
@@ -156,7 +156,7 @@ module _ {c : Netlist} {seed : List ℕ} {r : ℕ} {t : Tables} (kept : IsKept c
         let number = and_number-below c i g at in
         grind (arith, label_count kept, kept.rows, get_or-set_same, slice_get-set_same)
 
-    elsewhere : (j : ℕ) (h : Gate) → slice_get c.gates j ≡ Some h → j ≢ i → (m : Mark)
+    elsewhere : (j : ℕ) (h : Gate) → slice_get c.gates j ≡ Some h → j ≢ i → (m : GateState)
         → state_at c after.zero_labels after.rows j m ≡ state_at c t.zero_labels t.rows j m
     elsewhere j h at_j other m =
         let sets = set-apart c kept.lawful.circuit j i h g at_j at other in

@@ -4,12 +4,12 @@ use Rattle.std.specs.List.{range_with_len}
 use Rattle.gc_netlist.specs.Circuit.{Netlist, IsLawful, and_number, and_count}
 use Rattle.gc_half.specs.declared.garbling.RowPair.{RowPair}
 use Rattle.gc_half.specs.Canonical.{no_rows, input_zero}
-use Rattle.gc_store.specs.declared.mark.Mark.{Mark}
-use Rattle.gc_store.specs.declared.mark.Mark.TheVariants as mark
+use Rattle.gc_store.specs.declared.gate_state.GateState.{GateState}
+use Rattle.gc_store.specs.declared.gate_state.GateState.TheVariants as mark
 use Rattle.gc_store.specs.Opening.{opening_countdown}
 
 pub record FirstTables : Type 0 where
-  pub marks : List Mark
+  pub marks : List GateState
   pub countdowns : List ℕ
   pub and_numbers : List ℕ
   pub zero_labels : List ℕ
@@ -23,7 +23,7 @@ pub record AreCounted (c : Netlist) (countdowns : List ℕ) : Type 0 where
       → slice_get countdowns i ≡ Some n
 
 -- Every gate is free in a queue of these marks and countdowns,
-pub record Queues (c : Netlist) (gate_marks : List Mark) (gate_counts : List ℕ) : Type 0 where
+pub record Queues (c : Netlist) (gate_marks : List GateState) (gate_counts : List ℕ) : Type 0 where
   pub lawful : IsLawful c
   pub marks : gate_marks ≡ replicate (length c.gates) mark.Free
   pub countdowns : AreCounted c gate_counts

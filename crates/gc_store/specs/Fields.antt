@@ -1,5 +1,5 @@
 -- The tables among the fields of the store's progress.
-use Rattle.gc_store.specs.declared.progress.Progress.TheInside.{Inside}
+use Rattle.gc_store.specs.declared.partial.PartialGarbling.TheInside.{Inside}
 use Rattle.gc_store.specs.Kept.{Tables}
 
 abbrev pub tables_of : {A : Type 0} → Inside A → Tables

@@ -7,8 +7,8 @@ use Rattle.gc_netlist.specs.Circuit.{Netlist, EachRead, IsSetBy, is_and, and_num
 use Rattle.gc_label.specs.Seed.{offset_of}
 use Rattle.gc_half.specs.declared.garbling.RowPair.{RowPair}
 use Rattle.gc_half.specs.Canonical.{zero_label_of}
-use Rattle.gc_store.specs.declared.mark.Mark.{Mark}
-use Rattle.gc_store.specs.declared.mark.Mark.TheVariants as mark
+use Rattle.gc_store.specs.declared.gate_state.GateState.{GateState}
+use Rattle.gc_store.specs.declared.gate_state.GateState.TheVariants as mark
 use Rattle.gc_store.specs.Queue as queue
 use Rattle.gc_store.specs.Queue.{Standing}
 use Rattle.gc_store.specs.Readers.{picked_reads, unknown_reads, IsLinked}
@@ -18,7 +18,7 @@ use Rattle.gc_store.specs.Content.{State, Free, Claimed, Finished, Content, is_f
 -- label for each wire, the AND number of each gate and a row pair for each AND gate. Then how many gates are finished,
 -- and how many of these are AND gates.
 pub record Tables : Type 0 where
-  pub marks : List Mark
+  pub marks : List GateState
   pub countdowns : List ℕ
   pub firsts : List ℕ
   pub nexts : List ℕ
@@ -40,13 +40,13 @@ module _ (c : Netlist) (zero_labels : List ℕ) (rows : List RowPair) where
       Finished (slice_index zero_labels g.set) (rows_at rows (and_number c i) g.operation)
 
   -- the state of gate i, by its mark
-  abbrev pub state_at : ℕ → Mark → State
+  abbrev pub state_at : ℕ → GateState → State
   state_at i mark.Free = Free
   state_at i mark.Claimed = Claimed
   state_at i mark.Finished = finished_state i (slice_get c.gates i)
 
   -- the state of each gate
-  unfoldable pub states_of : List Mark → List State
+  unfoldable pub states_of : List GateState → List State
   states_of marks =
       map (λ i. state_at i (slice_index_or marks i mark.Free)) (range_with_len 0 (length c.gates))
 

@@ -8,8 +8,8 @@
 mod batch;
 mod beginning;
 mod gate_set;
-mod mark;
-mod progress;
+mod gate_state;
+mod partial;
 mod queue;
 mod readers;
 mod refusal;

@@ -1,11 +1,11 @@
 //! How far each gate is, and the queue of those that are ready.
 
 ghost use Rattle.std.specs.Prelude.{◌≡◌, ◌↔◌, ◌<◌, ◌+◌, ◌-◌, ◌^◌, ℕ, IsTrue, IfOk, Some, length, map, replicate, count_by, slice_get, slice_set, slice_index_or};
-ghost use Rattle.gc_store.specs.declared.mark.Mark.TheVariants as mark;
+ghost use Rattle.gc_store.specs.declared.gate_state.GateState.TheVariants as mark;
 ghost use Rattle.gc_store.specs.Queue.{with_mark, Takes, freed, is_busy};
 
 use crate::gate_set::GateSet;
-use crate::mark::Mark;
+use crate::gate_state::GateState;
 use crate::tables::repeated;
 use gc_circuit::Memory;
 use std::alloc::Allocator;
@@ -20,7 +20,7 @@ use std::marker::Model;
 #[derive(Drop)]
 pub struct Queue<A: Allocator> {
     // By gate.
-    marks: Vec<Mark, A>,
+    marks: Vec<GateState, A>,
     countdowns: Vec<u8, A>,
     queued: GateSet<A>,
     // How many gates are claimed or finished.
@@ -54,7 +54,7 @@ impl<A: Allocator + Copy> Queue<A> {
     {
         let gates = countdowns.len() as u32;
         let mut queue = Queue {
-            marks: repeated(alloc, Mark::Free, gates)?,
+            marks: repeated(alloc, GateState::Free, gates)?,
             queued: GateSet::open(alloc, gates)?,
             countdowns,
             busy: 0,
@@ -83,7 +83,7 @@ impl<A: Allocator> Queue<A> {
         ensures { Takes self.old result self.new }
     {
         let gate = self.queued.take(from)?;
-        self.marks[gate as usize] = Mark::Claimed;
+        self.marks[gate as usize] = GateState::Claimed;
         self.busy += 1;
         Some(gate)
     }
@@ -94,7 +94,7 @@ impl<A: Allocator> Queue<A> {
         requires { slice_get self.old.marks gate ≡ Some mark.Claimed }
         ensures { self.new ≡ with_mark self.old gate mark.Finished }
     {
-        self.marks[gate as usize] = Mark::Finished;
+        self.marks[gate as usize] = GateState::Finished;
     }
 
     /// Counts a gate down by one, and queues it where that was the last. The caller ensures that its countdown isn't 0.
@@ -118,7 +118,7 @@ impl<A: Allocator> Queue<A> {
         ensures { self.new ≡ with_mark self.old gate mark.Free }
     {
         self.busy -= 1;
-        self.marks[gate as usize] = Mark::Free;
+        self.marks[gate as usize] = GateState::Free;
         self.queued.insert(gate);
     }
 

@@ -1,9 +1,11 @@
 //! Why a store refuses a sealed task.
 
 ghost use Rattle.std.specs.Prelude.{◌≡◌};
-ghost use Rattle.gc_store.specs.Refusal.{code_of, name_of, sealed_of};
+ghost use Rattle.gc_netlist.specs.Names.{fault_name};
+ghost use Rattle.gc_store.specs.Refusal.{code_of, sealed_of};
 
 use crate::task::Sealed;
+use gc_netlist::fault_name;
 use std::error::Error;
 use std::fmt;
 
@@ -29,12 +31,9 @@ impl Refused {
 
     /// The name of the refusal.
     pub fn name(self) -> &'static str
-        ensures { result.now ≡ name_of self }
+        ensures { result.now ≡ fault_name (code_of self) }
     {
-        match self {
-            Refused::NotClaimed(_) => "NotClaimed",
-            Refused::OtherInputs(_) => "OtherInputs",
-        }
+        fault_name(self.code())
     }
 
     /// The sealed task that was refused.
@@ -51,7 +50,7 @@ impl Refused {
 impl fmt::Display for Refused {
     ghost use Rattle.std.specs.Prelude.{Some};
 
-    ghost output = { λ refused. Some (name_of refused) };
+    ghost output = { λ refused. Some (fault_name (code_of refused)) };
 
     fn fmt<W: fmt::Write>(&self, f: &mut fmt::Formatter<W>) -> fmt::Result {
         f.write_str(self.name())

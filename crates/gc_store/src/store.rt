@@ -8,7 +8,7 @@ ghost use Rattle.gc_workers.specs.declared.TheConstants.{MAX_WORKERS};
 ghost use Rattle.gc_store.specs.Step.{Claims, ClaimsSome, Finishes, Deals, Settles, Reopens};
 
 use crate::batch::Batch;
-use crate::progress::Progress;
+use crate::partial::PartialGarbling;
 use crate::refusal::Refused;
 use crate::tally::{Tally, TallyMissing, add_up};
 use crate::task::{Sealed, Task};
@@ -30,7 +30,7 @@ use std::thread::Threads;
 /// [`Store::open`] takes all its memory, and no later call takes any.
 #[derive(Drop)]
 pub struct Store<L: Ledger, A: Allocator = Global> {
-    progress: Progress<A>,
+    progress: PartialGarbling<A>,
     tallies: u32,
     book: Book<L>,
     // The shares of the tallies that were not dealt, each of nothing.
@@ -54,7 +54,7 @@ impl<L: Ledger, A: Allocator> Model for Store<L, A> {
 
 impl<L: Ledger, A: Allocator> Store<L, A> {
     /// A store where every gate is free, which begins the ledger.
-    fn begin(ledger: Blank, progress: Progress<A>) -> Store<L, A>
+    fn begin(ledger: Blank, progress: PartialGarbling<A>) -> Store<L, A>
         requires ledger { IsForStore L.name L.parts ledger }
         requires none { count_by is_finished progress.states ≡ 0 }
         ensures { (result.content ≡ progress) × (result.tallies ≡ 0) }
@@ -81,7 +81,7 @@ impl<L: Ledger, A: Allocator + Copy> Store<L, A> {
         requires { IsForStore L.name L.parts ledger }
         ensures { IfOk result (IsOpened circuit seed) }
     {
-        Ok(Store::begin(ledger, Progress::open(alloc, circuit, seed)?))
+        Ok(Store::begin(ledger, PartialGarbling::open(alloc, circuit, seed)?))
     }
 }
 
@@ -99,7 +99,7 @@ impl<L: Ledger, A: Allocator + Copy + Send + Sync> Store<L, A> {
         requires { IsForStore L.name L.parts ledger }
         ensures { IfOk result (IsOpened circuit.now seed) }
     {
-        let progress = Progress::open_by(rt, alloc, circuit, seed, threads)?;
+        let progress = PartialGarbling::open_by(rt, alloc, circuit, seed, threads)?;
         Ok(Store::begin(ledger, progress))
     }
 }

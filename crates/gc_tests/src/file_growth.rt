@@ -1,6 +1,5 @@
 //! Each growth refused in turn of the calls that read files and of sinks in memory, and calls that don't allocate.
 
-use crate::growth::{answer_of, zero_seed};
 use crate::pieces::{FORGED_HEADER, HALF, flip};
 use gc_circuit::Circuit;
 use gc_file::{
@@ -8,14 +7,13 @@ use gc_file::{
     WriteFault, before_trailer, read_garbled, read_garbled_by_digest, read_garbled_from,
     read_labels, write_garbled, write_garbled2, write_labels,
 };
+use gc_fixtures::circuits::AND;
+use gc_fixtures::compare::equal;
+use gc_fixtures::files::{ONE_LABEL, and_file, zero_seed};
+use gc_fixtures::growths::{Answer, answer_of, runs_refused};
+use gc_fixtures::refusing::Refusing;
 use gc_half::{Garbling, garble_one_thread, output_entry};
 use gc_label::{Label, offset};
-use gc_refusing::Refusing;
-use gc_worked::circuits::AND;
-use gc_worked::compare::equal;
-use gc_worked::files::and_file;
-use gc_worked::growths::{Answer, runs_refused};
-use gc_worked::worked_files::ONE_LABEL;
 use sha2::{Digest, Sha256};
 use std::alloc::{Allocator, Global};
 use std::test::Fail;

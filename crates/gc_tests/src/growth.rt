@@ -4,31 +4,16 @@
 use gc_circuit::{
     Circuit, Memory, ReadFault, ValueFault, fits, plain_eval, read_value, show_value,
 };
-use gc_half::{
-    Garbling, begin_garbling, garble_one_thread, garble_two, input_active_labels, input_zero_labels,
-};
-use gc_label::{Label, Seed};
-use gc_refusing::Refusing;
-use gc_worked::circuits::{FULL_ADDER, many_ands, one_zero_one};
-use gc_worked::compare::equal;
-use gc_worked::growths::{Answer, runs_refused};
+use gc_fixtures::circuits::{FULL_ADDER, many_ands, one_zero_one};
+use gc_fixtures::compare::equal;
+use gc_fixtures::files::zero_seed;
+use gc_fixtures::growths::{Answer, answer_of, runs_refused};
+use gc_fixtures::refusing::Refusing;
+use gc_half::{garble_one_thread, garble_two, input_active_labels, input_zero_labels};
+use gc_label::Label;
 use linked_list_allocator::LocalHeap;
 use std::alloc::Allocator;
 use std::test::Fail;
-
-/// The seed of 32 zero bytes.
-pub(crate) fn zero_seed() -> Seed {
-    Seed::from_bytes([0; 32])
-}
-
-/// What a call returned that has this Memory fault.
-pub(crate) fn answer_of<T: Drop, E: PartialEq + Copy>(found: Result<T, E>, memory: E) -> Answer {
-    match found.err() {
-        None => Answer::Plain,
-        Some(fault) if fault == memory => Answer::Memory,
-        Some(_) => Answer::Other,
-    }
-}
 
 /// A call that asks for memory.
 #[derive(Clone, Copy, PartialEq, Debug)]
@@ -43,12 +28,11 @@ enum Call {
     ZeroLabels,
     ActiveLabels,
     Garble,
-    GarbleInParts,
     GarbleTwo,
 }
 
 /// The calls, and how many growths each asks for.
-static GROWTHS: [(Call, u64); 12] = [
+static GROWTHS: [(Call, u64); 11] = [
     (Call::Read, 4),
     (Call::Copy, 3),
     (Call::Canon, 4),
@@ -59,17 +43,8 @@ static GROWTHS: [(Call, u64); 12] = [
     (Call::ZeroLabels, 1),
     (Call::ActiveLabels, 1),
     (Call::Garble, 2),
-    (Call::GarbleInParts, 3),
     (Call::GarbleTwo, 4),
 ];
-
-/// Garbles a circuit in two parts, the first of which has no gates.
-fn garble_in_parts<A: Allocator + Copy>(heap: A, circuit: &Circuit) -> Result<Garbling<A>, Memory> {
-    let seed = zero_seed();
-    let (mut begun, rows) = begin_garbling(heap, circuit, &seed, 0)?;
-    let rest = begun.finish(heap, circuit, &seed, &rows)?;
-    rest.after(rows)
-}
 
 /// What a call returned over this memory, of the full adder or of values for it.
 fn answer<A: Allocator + Copy>(
@@ -97,7 +72,6 @@ fn answer<A: Allocator + Copy>(
         Call::ZeroLabels => answer_of(input_zero_labels(heap, circuit, &zero_seed()), Memory),
         Call::ActiveLabels => answer_of(input_active_labels(heap, 5, &[Label::ZERO; 2]), Memory),
         Call::Garble => answer_of(garble_one_thread(heap, circuit, &zero_seed()), Memory),
-        Call::GarbleInParts => answer_of(garble_in_parts(heap, circuit), Memory),
         Call::GarbleTwo => answer_of(
             garble_two(heap, circuit, &zero_seed(), &zero_seed()),
             Memory,

@@ -1,12 +1,34 @@
-//! The tests of circuits, values, garbling and files: each growth of a call refused in turn, calls that don't allocate,
-//! and sources and sinks that fail.
+//! The tests of circuits, values, garbling and files, of stores that threads share, of pools of tasks, and of garbling
+//! on many threads: each growth of a call refused in turn, calls that don't allocate, and sources and sinks that fail.
 #![tactic(auto)]
 
 #[cfg(test)]
 mod file_growth;
 #[cfg(test)]
+mod fixtures;
+#[cfg(test)]
 mod growth;
+#[cfg(test)]
+mod layers;
 #[cfg(test)]
 mod pieces;
 #[cfg(test)]
+mod pools;
+#[cfg(test)]
 mod reading;
+#[cfg(test)]
+mod refusing;
+#[cfg(test)]
+mod reports;
+#[cfg(test)]
+mod retreats;
+#[cfg(test)]
+mod shared_stores;
+#[cfg(test)]
+mod sleepers;
+#[cfg(test)]
+mod store_growth;
+#[cfg(test)]
+mod ways;
+#[cfg(test)]
+mod workers;

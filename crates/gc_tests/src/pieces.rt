@@ -1,16 +1,14 @@
 //! Tests of garbled files that come in pieces, and of sinks and sources that fail.
 
-use gc_circuit::Circuit;
+use crate::fixtures::read;
 use gc_file::{
-    FileFault, GarbledReader, InSource, MemSink, MemSource, OutSink, Sink, Source, TakeFault,
-    Version, WriteFault, begin_garbled, read_garbled_from,
+    FileFault, GarbledReader, InSource, MemSource, OutSink, Sink, Source, TakeFault, Version,
+    WriteFault, read_garbled_from,
 };
-use gc_half::garble_one_thread;
-use gc_label::{Seed, offset};
-use gc_refusing::Refusing;
-use gc_worked::circuits::AND;
-use gc_worked::compare::equal;
-use gc_worked::files::{and_file, write};
+use gc_fixtures::circuits::AND;
+use gc_fixtures::compare::equal;
+use gc_fixtures::files::{and_file, write};
+use gc_fixtures::refusing::Refusing;
 use std::alloc::{Allocator, Global};
 use std::io::{self, ErrorKind, Read, Write};
 use std::test::Fail;
@@ -78,6 +76,7 @@ fn of_a_forged_header(rt: HostRuntime) -> Result<(), Fail> {
 /// A file that isn't written whole is a fault, of a sink that fails after some bytes.
 #[test]
 fn to_a_sink_that_fails(rt: HostRuntime) -> Result<(), Fail> {
+    let circuit = read(rt.alloc(), AND)?;
     for (version, length) in [(Version::One, 113), (Version::Two, 145)] {
         for limit in 0..=length {
             let wanted = if limit < length {
@@ -85,46 +84,7 @@ fn to_a_sink_that_fails(rt: HostRuntime) -> Result<(), Fail> {
             } else {
                 Ok(length as u64)
             };
-            let answer = write(rt.alloc(), AND, version, Some(limit))?.answer;
-            equal((limit, answer), (limit, wanted))?;
-        }
-    }
-    Ok(())
-}
-
-/// Writes the AND gate's file in two steps to a sink with this limit.
-fn write_in_steps(
-    alloc: Global,
-    version: Version,
-    limit: usize,
-) -> Result<Result<u64, WriteFault>, Fail> {
-    let seed = Seed::from_bytes([0; 32]);
-    let circuit = Circuit::read(alloc, AND.as_bytes())?;
-    let garbling = garble_one_thread(alloc, &circuit, &seed)?;
-    if !garbling.fits(&circuit) {
-        return Err(Fail::new("the garbling does not fit its circuit"));
-    }
-    let mut sink = MemSink::new(alloc, Some(limit));
-    let digest = circuit.digest();
-    Ok(
-        match begin_garbled(&mut sink, version, &circuit, &digest, &[]) {
-            Ok(begun) => begun.finish(&mut sink, version, &circuit, &garbling, offset(&seed)),
-            Err(fault) => Err(fault),
-        },
-    )
-}
-
-/// So is one that is written in two steps.
-#[test]
-fn in_steps_to_a_sink_that_fails(rt: HostRuntime) -> Result<(), Fail> {
-    for (version, length) in [(Version::One, 113), (Version::Two, 145)] {
-        for limit in 0..=length {
-            let wanted = if limit < length {
-                Err(WriteFault { sent: limit as u64 })
-            } else {
-                Ok(length as u64)
-            };
-            let answer = write_in_steps(rt.alloc(), version, limit)?;
+            let answer = write(rt.alloc(), &circuit, version, Some(limit))?.answer;
             equal((limit, answer), (limit, wanted))?;
         }
     }

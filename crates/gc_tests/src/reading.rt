@@ -1,7 +1,7 @@
 //! A test of the text that a circuit shows.
 
 use gc_circuit::Circuit;
-use gc_worked::circuits::FULL_ADDER;
+use gc_fixtures::circuits::FULL_ADDER;
 use std::test::Fail;
 
 #[test]

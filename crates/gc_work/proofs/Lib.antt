@@ -1,5 +1,4 @@
 pub mod Names
 pub mod PoolMoves
 pub mod LeftLemmas
-pub mod PlaceLemmas
 pub mod SweepLemmas

@@ -3,7 +3,4 @@ pub mod PoolRule
 pub mod Left
 pub mod Kept
 pub mod Places
-pub mod Ready
-pub mod Owners
 pub mod WorkFault
-pub mod Start

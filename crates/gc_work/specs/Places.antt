@@ -1,9 +1,10 @@
--- Which pool a thief is at.
-use Rattle.std.specs.Prelude.{◌≡◌, ℕ, List, Some, slice_get, All}
+-- Workers whose owner and thieves are at the pools of their places among all pools.
+use Rattle.std.specs.Prelude.{◌≡◌, List, Some, slice_get, All}
 use Rattle.std.specs.declared.vec.Vec.{Vec}
 use Rattle.atomic_blocks.specs.Lent.{RowsId}
-use Rattle.gc_work.specs.Pool.{ThiefParts, AllOf}
 use Rattle.gc_work.specs.declared.steal.PlacedThief.{PlacedThief}
+use Rattle.gc_work.specs.declared.worker.Worker.{Worker}
+use Rattle.gc_work.specs.declared.workers.PlacedOwner.{PlacedOwner}
 
 module _ {A : Type 0} where
   -- the thief is at the pool of its place
@@ -17,7 +18,11 @@ module _ {A : Type 0} where
   abbrev pub AreRows : List (RowsId × A) → List (Vec (PlacedThief A) A) → Type 0
   AreRows pools rows = All (λ row. ArePlaced pools row.items) rows
 
-  -- each list has thieves of the pool of its place
-  abbrev pub AreByPool : List (RowsId × A) → List (Vec (ThiefParts A) A) → Type 0
-  AreByPool pools by_pool = (j : ℕ) (p : RowsId × A) (thieves : Vec (ThiefParts A) A)
-      → slice_get pools j ≡ Some p → slice_get by_pool j ≡ Some thieves → AllOf p thieves.items
+  -- each owner is of the pool of its place
+  abbrev pub AreOwners : List (RowsId × A) → List (PlacedOwner A) → Type 0
+  AreOwners pools owners = All (λ o. slice_get pools o.place ≡ Some o.owner.pool) owners
+
+  -- the worker has the owner of the pool of its place, and its thieves are at the pools of theirs
+  pub record IsReady {L : Type 0} (pools : List (RowsId × A)) (w : Worker L A) : Type 0 where
+    pub own : slice_get pools w.place ≡ Some w.owner.pool
+    pub others : ArePlaced pools w.thieves.items

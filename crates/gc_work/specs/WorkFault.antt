@@ -1,5 +1,5 @@
--- The numbers and names of the faults of garbling on many threads, and when each comes.
-use Rattle.std.specs.Prelude.{◌≡◌, ℕ, ◌<◌, ◌⊎◌, List, Result, Ok, Err, codes}
+-- The numbers of the faults of garbling on many threads, and when each comes.
+use Rattle.std.specs.Prelude.{◌≡◌, ℕ, ◌<◌, ◌⊎◌, Result, Ok, Err}
 use Rattle.gc_work.specs.declared.fault.WorkFault.{WorkFault}
 use Rattle.gc_work.specs.declared.fault.WorkFault.TheVariants.{BadWorkers, Memory}
 use Rattle.gc_workers.specs.declared.TheConstants.{MAX_WORKERS}
@@ -8,10 +8,6 @@ use Rattle.gc_workers.specs.Workers.{AreFew}
 abbrev pub code_of : WorkFault → ℕ
 code_of BadWorkers = 22
 code_of Memory = 23
-
-abbrev pub name_of : WorkFault → List ℕ
-name_of BadWorkers = codes "BadWorkers"
-name_of Memory = codes "Memory"
 
 -- With this number of workers there is this fault: their number is wrong, or it isn't and memory ran out.
 abbrev pub HasWorkFault : ℕ → WorkFault → Type 0

@@ -1,10 +1,12 @@
 //! Why there is no garbling.
 
 ghost use Rattle.std.specs.Prelude.{◌≡◌, IfErr, OnOk};
+ghost use Rattle.gc_netlist.specs.Names.{fault_name};
 ghost use Rattle.gc_workers.specs.Workers.{AreFew};
-ghost use Rattle.gc_work.specs.WorkFault.{HasWorkFault, code_of, name_of};
+ghost use Rattle.gc_work.specs.WorkFault.{HasWorkFault, code_of};
 
 use gc_circuit::Memory;
+use gc_netlist::fault_name;
 use gc_workers::MAX_WORKERS;
 use std::error::Error;
 use std::fmt;
@@ -31,12 +33,9 @@ impl WorkFault {
 
     /// The name of the fault.
     pub fn name(self) -> &'static str
-        ensures { result.now ≡ name_of self }
+        ensures { result.now ≡ fault_name (code_of self) }
     {
-        match self {
-            WorkFault::BadWorkers => "BadWorkers",
-            WorkFault::Memory => "Memory",
-        }
+        fault_name(self.code())
     }
 }
 
@@ -55,7 +54,7 @@ pub(crate) fn check_workers(workers: u32) -> Result<(), WorkFault>
 impl fmt::Display for WorkFault {
     ghost use Rattle.std.specs.Prelude.{Some};
 
-    ghost output = { λ fault. Some (name_of fault) };
+    ghost output = { λ fault. Some (fault_name (code_of fault)) };
 
     fn fmt<W: fmt::Write>(&self, f: &mut fmt::Formatter<W>) -> fmt::Result {
         f.write_str(self.name())

@@ -2,8 +2,7 @@
 //!
 //! [`garble`] garbles on one thread, by layers (`gc_layers`) or through one store, as [`way_of`](gc_layers::way_of)
 //! says. Through a store workers claim, seal and hand in gates under a lock, and what the store keeps at every moment
-//! makes the result right, whatever the threads did. [`start_garbling`] stops after the first gates where one thread
-//! garbles.
+//! makes the result right, whatever the threads did.
 //!
 //! A [`TaskPool`] is filled and emptied by one [`Owner`] and emptied by any number of [`Thief`]s, with no lock.
 //! What was pushed to it is what was taken from it and what is left, whatever the threads did.
@@ -12,7 +11,6 @@
 mod account;
 mod fault;
 mod garbling;
-mod gather;
 mod pool;
 mod steal;
 mod sweep;
@@ -21,6 +19,6 @@ mod workers;
 
 pub use account::{PoolAccount, PoolRule};
 pub use fault::WorkFault;
-pub use garbling::{Start, garble, start_garbling};
+pub use garbling::garble;
 pub use gc_workers::{Gatehouse, Open};
 pub use pool::{Gathered, NoRoom, Owner, TaskPool, Thief};

@@ -1,7 +1,7 @@
 //! One worker: where its tasks come from, and where they go when they are sealed.
 
 ghost use Rattle.std.specs.Prelude.{◌≡◌};
-ghost use Rattle.gc_work.specs.Ready.{IsReady};
+ghost use Rattle.gc_work.specs.Places.{IsReady};
 
 use crate::pool::{NoRoom, Owner, TaskPool};
 use crate::steal::{PlacedThief, steal_any};
@@ -11,8 +11,17 @@ use std::alloc::Allocator;
 use std::sync::Wait;
 use std::sync::ledger::Ledger;
 
+/// What the workers share: the store, their pools, and the observer.
+#[derive(Drop)]
+pub(crate) struct Shared<'a, L: Ledger, A: Allocator, H, R> {
+    pub rt: &'a R,
+    pub store: &'a SharedStore<L, A>,
+    pub pools: &'a [TaskPool<A>],
+    pub observer: &'a H,
+}
+
 /// What a worker has of its own: the place of its pool among all pools, its number, its tally, its pool's owner, a
-/// thief at each other pool, and room for the tasks that it has sealed and not handed in.
+/// thief at each other pool, the tasks that it has claimed, and room for those that it has sealed and not handed in.
 #[derive(Drop)]
 pub(crate) struct Worker<L: Ledger, A: Allocator> {
     pub place: usize,
@@ -20,66 +29,64 @@ pub(crate) struct Worker<L: Ledger, A: Allocator> {
     pub tally: Tally<L>,
     pub owner: Owner<A>,
     pub thieves: Vec<PlacedThief<A>, A>,
+    pub batch: Batch,
     pub sealed: Vec<Sealed, A>,
 }
 
 /// The most tasks that a worker seals before it hands them in.
 pub(crate) const MAX_SEALED: usize = BATCH_SIZE;
 
-/// Pushes the tasks of a batch, for others to steal, but for one that the worker keeps. A task that the pool has no
-/// room for comes back.
-fn share<A: Allocator>(pool: &TaskPool<A>, owner: &mut Owner<A>, batch: &mut Batch) -> Option<Task>
-    requires { owner.old.pool ≡ pool.now }
-    ensures { owner.new.pool ≡ owner.old.pool }
+/// Pushes the tasks that the worker has claimed, for others to steal, and returns one that it keeps: the last, or one
+/// that the pool has no room for.
+fn share<L: Ledger, A: Allocator>(pool: &TaskPool<A>, worker: &mut Worker<L, A>) -> Option<Task>
+    requires { worker.old.owner.pool ≡ pool.now }
+    ensures place { worker.new.place ≡ worker.old.place }
+    ensures pool { worker.new.owner.pool ≡ worker.old.owner.pool }
+    ensures thieves { worker.new.thieves ≡ worker.old.thieves }
 {
     for _i in 0..BATCH_SIZE {
-        if batch.len() <= 1 {
+        if worker.batch.len() <= 1 {
             break;
         }
-        let task = batch.pop()?;
-        if let Err(NoRoom { task }) = pool.push(owner, task) {
+        let task = worker.batch.pop()?;
+        if let Err(NoRoom { task }) = pool.push(&mut worker.owner, task) {
             return Some(task);
         }
     }
-    batch.pop()
+    worker.batch.pop()
 }
 
-/// A task that the worker has: of its batch, or of its own pool.
-fn own_task<A: Allocator>(
-    pool: &TaskPool<A>,
-    owner: &mut Owner<A>,
-    batch: &mut Batch,
-) -> Option<Task>
-    requires { owner.old.pool ≡ pool.now }
-    ensures { owner.new.pool ≡ owner.old.pool }
+/// A task that the worker has: one that it has claimed, or of its own pool.
+fn own_task<L: Ledger, A: Allocator>(pool: &TaskPool<A>, worker: &mut Worker<L, A>) -> Option<Task>
+    requires { worker.old.owner.pool ≡ pool.now }
+    ensures place { worker.new.place ≡ worker.old.place }
+    ensures pool { worker.new.owner.pool ≡ worker.old.owner.pool }
+    ensures thieves { worker.new.thieves ≡ worker.old.thieves }
 {
-    match batch.pop() {
+    match worker.batch.pop() {
         Some(task) => Some(task),
-        None => pool.pop(owner),
+        None => pool.pop(&mut worker.owner),
     }
 }
 
 /// The next task: one that the worker has, or of another's pool, or of the store. It may wait there.
-fn next_task<L: Ledger, A: Allocator, R: Wait>(
-    rt: &R,
-    shared: &SharedStore<L, A>,
+fn next_task<L: Ledger, A: Allocator, H, R: Wait>(
+    shared: &Shared<'_, L, A, H, R>,
     pool: &TaskPool<A>,
-    pools: &[TaskPool<A>],
     worker: &mut Worker<L, A>,
-    batch: &mut Batch,
 ) -> Option<Task>
-    requires ready { IsReady pools.now worker.old }
+    requires ready { IsReady shared.now.pools.now worker.old }
     requires own { worker.old.owner.pool ≡ pool.now }
-    ensures ready { IsReady pools.now worker.new }
+    ensures ready { IsReady shared.now.pools.now worker.new }
     ensures own { worker.new.owner.pool ≡ worker.old.owner.pool }
 {
-    if let Some(task) = own_task(pool, &mut worker.owner, batch) {
+    if let Some(task) = own_task(pool, worker) {
         return Some(task);
     }
-    if let Some(task) = steal_any(pools, worker.thieves.as_mut_slice()) {
+    if let Some(task) = steal_any(shared.pools, worker.thieves.as_mut_slice()) {
         return Some(task);
     }
-    shared.take(rt)
+    shared.store.take(shared.rt)
 }
 
 /// Seals an AND gate's task together with the kept one, or keeps it. Returns whether there was room for them.
@@ -113,12 +120,11 @@ fn seal<A: Allocator>(sealed: &mut Vec<Sealed, A>, kept: &mut Option<Task>, task
 fn seal_some<L: Ledger, A: Allocator, H: Gatehouse>(
     pool: &TaskPool<A>,
     worker: &mut Worker<L, A>,
-    batch: &mut Batch,
     observer: &H,
     task: Task,
 ) -> bool
     requires { worker.old.owner.pool ≡ pool.now }
-    ensures same { worker.new.place ≡ worker.old.place }
+    ensures place { worker.new.place ≡ worker.old.place }
     ensures pool { worker.new.owner.pool ≡ worker.old.owner.pool }
     ensures thieves { worker.new.thieves ≡ worker.old.thieves }
 {
@@ -133,7 +139,7 @@ fn seal_some<L: Ledger, A: Allocator, H: Gatehouse>(
             return false;
         }
         next = if i < MAX_SEALED {
-            own_task(pool, &mut worker.owner, batch)
+            own_task(pool, worker)
         } else {
             None
         };
@@ -147,40 +153,34 @@ fn seal_some<L: Ledger, A: Allocator, H: Gatehouse>(
 /// Works until nothing is left to do, or until the store is stopped. Where a task can't be handed in it stops the
 /// store.
 pub(crate) fn work<L: Ledger, A: Allocator, H: Gatehouse, R: Wait>(
-    rt: &R,
-    shared: &SharedStore<L, A>,
-    pools: &[TaskPool<A>],
+    shared: &Shared<'_, L, A, H, R>,
     worker: &mut Worker<L, A>,
-    observer: &H,
 )
-    requires { IsReady pools.now worker.old }
-    ensures { IsReady pools.now worker.new }
+    requires { IsReady shared.now.pools.now worker.old }
 {
-    let Some(pool) = pools.get(worker.place) else {
+    let (rt, store) = (shared.rt, shared.store);
+    let Some(pool) = shared.pools.get(worker.place) else {
         return;
     };
-    let mut batch = Batch::new();
     let mut kept: Option<Task> = None;
     for _ in rt.forever() {
         if kept.is_none() {
-            kept = next_task(rt, shared, pool, pools, worker, &mut batch);
+            kept = next_task(shared, pool, worker);
         }
         let Some(task) = kept else {
             return;
         };
         worker.sealed.clear();
-        if !seal_some(pool, worker, &mut batch, observer, task) {
-            shared.stop(rt);
+        if !seal_some(pool, worker, shared.observer, task) {
+            store.stop(rt);
             return;
         }
         let sealed = worker.sealed.as_slice();
-        if shared
-            .hand_in_all(rt, sealed, &mut worker.tally, &mut batch)
-            .is_err()
-        {
-            shared.stop(rt);
+        let handed_in = store.hand_in_all(rt, sealed, &mut worker.tally, &mut worker.batch);
+        if handed_in.is_err() {
+            store.stop(rt);
             return;
         }
-        kept = share(pool, &mut worker.owner, &mut batch);
+        kept = share(pool, worker);
     }
 }

@@ -2,23 +2,21 @@
 
 ghost use Rattle.std.specs.Prelude.{◌≡◌, ◌++◌, ◌∷◌, [], All, IfOk, OnOk, length};
 ghost use Rattle.gc_work.specs.Pool.{AllOf};
-ghost use Rattle.gc_work.specs.Places.{AreRows};
-ghost use Rattle.gc_work.specs.Ready.{IsReady};
-ghost use Rattle.gc_work.specs.Owners.{AreOwners};
+ghost use Rattle.gc_work.specs.Places.{AreOwners, AreRows, IsReady};
 
 use crate::pool::{Owner, TaskPool, Thief};
 use crate::steal::PlacedThief;
 use crate::worker::{MAX_SEALED, Worker};
 use gc_circuit::Memory;
-use gc_store::Store;
+use gc_store::{Batch, Store};
 use std::alloc::Allocator;
 use std::sync::ledger::Ledger;
 
 /// An owner, and the place of its pool among all pools.
 #[derive(Drop)]
-pub(crate) struct PlacedOwner<A: Allocator> {
-    pub place: usize,
-    pub owner: Owner<A>,
+struct PlacedOwner<A: Allocator> {
+    place: usize,
+    owner: Owner<A>,
 }
 
 /// The pools, their owners, and for each worker its thieves at the others' pools.
@@ -101,19 +99,22 @@ fn open_pools<A: Allocator + Copy>(
     })
 }
 
-/// The workers with these owners and thieves, from the last to worker 0. They are fewer where the store has no more
-/// tallies.
+/// A worker for each of these owners, with its thieves, from the last to worker 0. They are fewer where the store has
+/// no more tallies.
 fn workers_of<L: Ledger, A: Allocator + Copy>(
     alloc: A,
     store: &mut Store<L, A>,
-    pools: &[TaskPool<A>],
-    mut owners: Vec<PlacedOwner<A>, A>,
-    mut rows: Vec<Vec<PlacedThief<A>, A>, A>,
-) -> Result<Vec<Worker<L, A>, A>, Memory>
-    requires owners { AreOwners pools.now owners.items }
-    requires rows { AreRows pools.now rows.items }
-    ensures { IfOk result (λ v. All (λ w. IsReady pools.now w) v.items) }
+    opened: Opened<A>,
+) -> Result<Workers<L, A>, Memory>
+    requires owners { AreOwners opened.pools.items opened.owners.items }
+    requires rows { AreRows opened.pools.items opened.rows.items }
+    ensures { IfOk result (λ r. All (λ w. IsReady r.pools.items w) r.workers.items) }
 {
+    let Opened {
+        pools,
+        mut owners,
+        mut rows,
+    } = opened;
     let mut workers = Vec::with_capacity(alloc, owners.len())?;
     while let Some(placed) = owners.pop() {
         let PlacedOwner { place, owner } = placed;
@@ -131,10 +132,11 @@ fn workers_of<L: Ledger, A: Allocator + Copy>(
             tally,
             owner,
             thieves,
+            batch: Batch::new(),
             sealed,
         })?;
     }
-    Ok(workers)
+    Ok(Workers { pools, workers })
 }
 
 /// This many workers, from the last to worker 0, and a pool of this capacity for each. The workers are fewer where the
@@ -147,11 +149,6 @@ pub(crate) fn open_workers<L: Ledger, A: Allocator + Copy>(
 ) -> Result<Workers<L, A>, Memory>
     ensures { IfOk result (λ r. All (λ w. IsReady r.pools.items w) r.workers.items) }
 {
-    let Opened {
-        pools,
-        owners,
-        rows,
-    } = open_pools(alloc, count, capacity)?;
-    let workers = workers_of(alloc, store, pools.as_slice(), owners, rows)?;
-    Ok(Workers { pools, workers })
+    let opened = open_pools(alloc, count, capacity)?;
+    workers_of(alloc, store, opened)
 }

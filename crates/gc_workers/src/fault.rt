@@ -1,8 +1,10 @@
 //! Why a board can't be opened, or closed.
 
 ghost use Rattle.std.specs.Prelude.{◌≡◌, codes};
-ghost use Rattle.gc_workers.specs.Fault.{code_of, name_of};
+ghost use Rattle.gc_netlist.specs.Names.{fault_name};
+ghost use Rattle.gc_workers.specs.Fault.{code_of};
 
+use gc_netlist::fault_name;
 use std::alloc::{AllocError, AllocFailed};
 use std::error::Error;
 use std::fmt;
@@ -29,12 +31,9 @@ impl OpenFault {
 
     /// The name of the fault, as users see it.
     pub fn name(self) -> &'static str
-        ensures { result.now ≡ name_of self }
+        ensures { result.now ≡ fault_name (code_of self) }
     {
-        match self {
-            OpenFault::Memory => "Memory",
-            OpenFault::NoTable => "NoTable",
-        }
+        fault_name(self.code())
     }
 }
 
@@ -42,7 +41,7 @@ impl OpenFault {
 impl fmt::Display for OpenFault {
     ghost use Rattle.std.specs.Prelude.{Some};
 
-    ghost output = { λ fault. Some (name_of fault) };
+    ghost output = { λ fault. Some (fault_name (code_of fault)) };
 
     fn fmt<W: fmt::Write>(&self, f: &mut fmt::Formatter<W>) -> fmt::Result {
         f.write_str(self.name())

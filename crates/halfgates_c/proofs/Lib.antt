@@ -1,3 +1,9 @@
+mod Alone
 mod AnswersLemmas
-mod ManyLemmas
+mod BorrowSteps
+mod BoxSteps
 mod ListLemmas
+mod ManyLemmas
+mod Pair
+mod Recast
+mod Walk

@@ -1,20 +1,20 @@
 -- Lists of handles, and the things that they hold.
 use Rattle.std.proofs.Common.{◌≡◌, ℕ, ◌+◌, ◌<◌, ℤ, inl, inr, Option, Some, None, List, [], ◌∷◌, ◌++◌, length, map, take, drop, get_or, refl, sym, ◌∙◌, ap}
 use Rattle.std.proofs.lemmas.List.{drop_more, map-append, take-append-drop}
-use Rattle.gc_handle.specs.declared.lent.Lent.{Lent}
+use Rattle.halfgates_c.specs.declared.borrow.Borrow.{Borrow}
 use Rattle.gc_job.specs.Job.{JobParts}
 use Rattle.gc_kept.specs.Garbling.{GarblingWith}
 use Rattle.gc_kept.specs.declared.held.Held.{Held}
 use Rattle.gc_kept.specs.declared.held.Held.TheVariants.{Circuit, Garbling, Job}
 use Rattle.halfgates_c.specs.Holding.{OfEach, OfGarbling, OfGarblings, OfJob, OfJobs, OfNoGarblings, OfNoJobs}
-use Rattle.halfgates_c.specs.Lending.{handle_of}
+use Rattle.halfgates_c.specs.Borrowing.{handle_of}
 
--- What is lent is what the handles hold.
-pub held_of : (lents : List (Lent Held))
-    → map (λ h. h.held) (map handle_of lents) ≡ map (λ l. l.value) lents
+-- What is borrowed is what the handles hold.
+pub held_of : (borrows : List (Borrow Held))
+    → map (λ h. h.held) (map handle_of borrows) ≡ map (λ b. b.value) borrows
 unfolding handle_of
 held_of [] = refl
-held_of (lent ∷ lents) = ap (λ rest. lent.value ∷ rest) (held_of lents)
+held_of (borrow ∷ borrows) = ap (λ rest. borrow.value ∷ rest) (held_of borrows)
 
 -- What is said of one handle: of a thing that it holds all that is true of the thing, and what follows from that.
 record IsSaid {X : Type 0} (OfOne : Option Held → (code : ℤ) → (X → Type 0) → Type 0)

@@ -7,7 +7,7 @@ use Rattle.gc_audit.specs.declared.labels.LabelsVerdict.TheVariants.{Bits, Wrong
 use Rattle.gc_kept.specs.declared.fault.KeptFault.{KeptFault}
 use Rattle.gc_kept.specs.declared.fault.KeptFault.TheVariants.{SmallBuffer}
 use Rattle.gc_kept.specs.Garbling.{GarblingWith}
-use Rattle.gc_kept.specs.Audit.{IsLabelsAuditOf, HasLabelsFault}
+use Rattle.gc_kept.specs.Audit.{IsLabelsAuditOf, HasLabelsAuditFault}
 use Rattle.halfgates_c.specs.declared.locate.TheConstants.{NONE}
 use Rattle.halfgates_c.specs.declared.audit_labels.LabelsReport.{LabelsReport}
 
@@ -59,4 +59,4 @@ pub record LacksRoom (g : GarblingWith) (bytes : List ℕ) (room : ℕ) (r : Lab
 abbrev pub HasReportFault : GarblingWith → (bytes : List ℕ) → (room : ℕ) → LabelsReport
     → KeptFault → Type 0
 HasReportFault g bytes room report SmallBuffer = LacksRoom g bytes room report
-HasReportFault g bytes room report fault = HasLabelsFault g bytes fault
+HasReportFault g bytes room report fault = HasLabelsAuditFault g bytes fault

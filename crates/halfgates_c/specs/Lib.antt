@@ -1,7 +1,8 @@
 pub mod Answers
+pub mod Behind
+pub mod Borrowing
 pub mod Holding
 pub mod LabelsReports
-pub mod Lending
 pub mod Numbers
 pub mod Places
 pub mod Reading

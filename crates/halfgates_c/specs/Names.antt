@@ -1,9 +1,10 @@
 -- The names of codes, as `docs/FAULTS.md` and `include/halfgates.h` list them.
 use Rattle.std.specs.Prelude.{◌≡◌, ◌≢◌, ◌⊎◌, ◌↔◌, ℕ, ℤ, pos, negsuc, List, ◌==◌, ◌++◌, ◌-◌, codes, length, replicate, if◌then◌else◌}
+use Rattle.gc_netlist.specs.Names.{fault_name}
 use Rattle.gc_job.specs.declared.fault.EvalFault.TheVariants.{BadWorkers}
 use Rattle.gc_kept.specs.declared.fault.KeptFault.{KeptFault}
 use Rattle.gc_kept.specs.declared.fault.KeptFault.TheVariants.{Evaluation}
-use Rattle.gc_kept.specs.Fault.{code_of, name_of}
+use Rattle.gc_kept.specs.Fault.{code_of}
 
 abbrev pub name_at : ℕ → List ℕ
 name_at n =
@@ -61,7 +62,7 @@ padded name = name ++ replicate (32 - length name) 0
 -- of such a number has no name.
 abbrev pub NamesFault : ℤ → List ℕ → Type 0
 NamesFault code text = (fault : KeptFault) → fault ≢ Evaluation BadWorkers
-    → code ≡ pos (code_of fault) → text ≡ padded (name_of fault)
+    → code ≡ pos (code_of fault) → text ≡ padded (fault_name (code_of fault))
 
 -- The flag is 1 where the code is that of a fault named Memory, and else 0.
 pub record IsMemoryFlag (code flag : ℤ) : Type 0 where

@@ -3,7 +3,7 @@
 ghost use Rattle.std.specs.Prelude.{◌≡◌, ◌≢◌, OnOk, OnErr, IfErr, MatchOption, pos};
 ghost use Rattle.core.specs.Ptr.{as_mut_ptr};
 ghost use denote.RawPtr.{Testable};
-ghost use Rattle.gc_kept.specs.Audit.{HasGarbledFault};
+ghost use Rattle.gc_kept.specs.Audit.{HasGarbledAuditFault};
 ghost use Rattle.halfgates_c.specs.Answers.{Answers};
 ghost use Rattle.halfgates_c.specs.Holding.{OfGarbling};
 ghost use Rattle.halfgates_c.specs.Reports.{AreRowFlags, IsReport, IsReportOn, version_number};
@@ -91,7 +91,7 @@ fn audit(
     report: &mut Report,
 ) -> Result<(), KeptFault>
     ensures ok { OnOk result (IsReportOn garbling.now file.now report.new) }
-    ensures fault { IfErr result (HasGarbledFault garbling.now file.now) }
+    ensures fault { IfErr result (HasGarbledAuditFault garbling.now file.now) }
     ensures kept { OnErr result (report.new ≡ report.old) }
 {
     let (version, found) = garbling.audit(alloc, file)?;
@@ -109,7 +109,7 @@ pub extern "C" fn halfgates_audit(
 ) -> i32
     requires report { Testable (as_mut_ptr report) }
     ensures answer { OfGarbling garbling.old.held result (λ g.
-        Answers result (IsReportOn g file.now report.new) (HasGarbledFault g file.now)) }
+        Answers result (IsReportOn g file.now report.new) (HasGarbledAuditFault g file.now)) }
     ensures back { garbling.new ≡ garbling.old }
     ensures kept { result ≢ pos 0 → report.new ≡ report.old }
 {

@@ -5,8 +5,8 @@ ghost use Rattle.core.specs.Ptr.{as_mut_ptr};
 ghost use denote.RawPtr.{Testable};
 ghost use Rattle.sha2.specs.Sha256.{sha256};
 ghost use Rattle.gc_netlist.specs.Canon.{canonical_text};
-ghost use Rattle.gc_kept.specs.Circuit.{HasTextFault};
-ghost use Rattle.gc_kept.specs.Plain.{ArePlainOutputs, HasPlainFault};
+ghost use Rattle.gc_kept.specs.Circuit.{HasCircuitTextFault};
+ghost use Rattle.gc_kept.specs.Plain.{ArePlainOutputs, HasPlainBufferFault};
 ghost use Rattle.halfgates_c.specs.Answers.{Answers};
 ghost use Rattle.halfgates_c.specs.Holding.{OfCircuit};
 ghost use Rattle.halfgates_c.specs.Reading.{HoldsCircuit, HoldsShared};
@@ -35,7 +35,7 @@ pub struct Numbers {
 /// Reads a circuit and hands it out.
 fn read(alloc: Global, text: &[u8], slot: &mut Slot) -> Result<(), KeptFault>
     ensures ok { OnOk result (HoldsCircuit text.now slot.new) }
-    ensures fault { IfErr result (HasTextFault text.now) }
+    ensures fault { IfErr result (HasCircuitTextFault text.now) }
     ensures kept { OnErr result (slot.new ≡ slot.old) }
 {
     let circuit = KeptCircuit::read(alloc, text)?;
@@ -47,7 +47,7 @@ fn read(alloc: Global, text: &[u8], slot: &mut Slot) -> Result<(), KeptFault>
 pub extern "C" fn halfgates_circuit_read(alloc: Global, text: &[u8], circuit: &mut Slot) -> i32
     requires circuit { Testable (as_mut_ptr circuit) }
     ensures answers { Answers result (HoldsCircuit text.now circuit.new)
-        (HasTextFault text.now) }
+        (HasCircuitTextFault text.now) }
     ensures kept { result ≢ pos 0 → circuit.new ≡ circuit.old }
 {
     if is_null(circuit) {
@@ -192,7 +192,7 @@ pub extern "C" fn halfgates_plain(
 ) -> i32
     ensures answer { OfCircuit circuit.old.held result (λ c.
         Answers result (ArePlainOutputs c bits.now outputs.old outputs.new)
-        (HasPlainFault c bits.now (length outputs.old))) }
+        (HasPlainBufferFault c bits.now (length outputs.old))) }
     ensures back { circuit.new ≡ circuit.old }
     ensures kept { result ≢ pos 0 → outputs.new ≡ outputs.old }
 {

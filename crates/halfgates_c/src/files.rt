@@ -5,7 +5,7 @@ ghost use Rattle.core.specs.Ptr.{as_ptr, as_mut_ptr};
 ghost use denote.RawPtr.{Testable};
 ghost use Rattle.gc_file.specs.Honest.{IsFileSize};
 ghost use Rattle.gc_kept.specs.Version.{version_of};
-ghost use Rattle.gc_kept.specs.Files.{IsDealtAt, IsDealtFrom, IsGarbledAt, HasDealFault, HasDealFaultFrom, HasFileFault};
+ghost use Rattle.gc_kept.specs.Files.{IsDealtAt, IsDealtFrom, IsGarbledAt, HasDealtFault, HasDealtFaultFrom, HasFileFault};
 ghost use Rattle.gc_kept.specs.Labels.{IsReceivedAt, HasReceivedFault};
 ghost use Rattle.halfgates_c.specs.Answers.{Answers};
 ghost use Rattle.halfgates_c.specs.Holding.{OfCircuit, OfGarbling, circuit_of};
@@ -71,7 +71,7 @@ pub extern "C" fn halfgates_deal(
     requires written { Testable (as_mut_ptr written) }
     ensures answer { OfCircuit circuit.old.held result (λ c.
         Answers result (IsDealtAt c seed.now index bits.now buffer.old buffer.new written.new)
-        (HasDealFault c seed.now index bits.now (length buffer.old) written.new)) }
+        (HasDealtFault c seed.now index bits.now (length buffer.old) written.new)) }
     ensures back { circuit.new ≡ circuit.old }
     ensures kept { result ≢ pos 0 → buffer.new ≡ buffer.old }
     ensures unreported { result ≢ pos 0 → result ≢ pos 61 → written.new ≡ written.old }
@@ -97,7 +97,7 @@ pub extern "C" fn halfgates_garbling_deal(
     requires written { Testable (as_mut_ptr written) }
     ensures answer { OfGarbling garbling.old.held result (λ g.
         Answers result (IsDealtFrom g index bits.now buffer.old buffer.new written.new)
-        (HasDealFaultFrom g index bits.now (length buffer.old) written.new)) }
+        (HasDealtFaultFrom g index bits.now (length buffer.old) written.new)) }
     ensures back { garbling.new ≡ garbling.old }
     ensures kept { result ≢ pos 0 → buffer.new ≡ buffer.old }
     ensures unreported { result ≢ pos 0 → result ≢ pos 61 → written.new ≡ written.old }

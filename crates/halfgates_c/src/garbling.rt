@@ -4,7 +4,7 @@ ghost use Rattle.std.specs.Prelude.{◌≡◌, ◌≢◌, OnOk, OnErr, IfErr, po
 ghost use Rattle.core.specs.Ptr.{as_ptr, as_mut_ptr};
 ghost use denote.RawPtr.{Testable};
 ghost use Rattle.gc_kept.specs.Garbling.{IsWantOfMemory};
-ghost use Rattle.gc_kept.specs.Labels.{HasGarbleFault};
+ghost use Rattle.gc_kept.specs.Labels.{HasFromLabelsFault};
 ghost use Rattle.gc_kept.specs.Wires.{IsZeroLabel, IsDecodeBit, HasNoWire, HasNoOutput};
 ghost use Rattle.halfgates_c.specs.Answers.{Answers};
 ghost use Rattle.halfgates_c.specs.Holding.{OfCircuit, OfGarbling};
@@ -68,7 +68,7 @@ fn garble_from(
     ensures ok { OnOk result
         (HoldsGarblingFrom circuit.now offset.now zero_labels.now first slot.new) }
     ensures fault { IfErr result
-        (HasGarbleFault circuit.now offset.now zero_labels.now first) }
+        (HasFromLabelsFault circuit.now offset.now zero_labels.now first) }
     ensures kept { OnErr result (slot.new ≡ slot.old) }
 {
     let garbling = circuit.garble_from(alloc, offset, zero_labels, first)?;
@@ -89,7 +89,7 @@ pub extern "C" fn halfgates_garble_from(
     requires garbling { Testable (as_mut_ptr garbling) }
     ensures answer { OfCircuit circuit.old.held result (λ c.
         Answers result (HoldsGarblingFrom c offset.now zero_labels.now first garbling.new)
-        (HasGarbleFault c offset.now zero_labels.now first)) }
+        (HasFromLabelsFault c offset.now zero_labels.now first)) }
     ensures back { circuit.new ≡ circuit.old }
     ensures kept { result ≢ pos 0 → garbling.new ≡ garbling.old }
 {

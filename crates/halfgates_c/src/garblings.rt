@@ -1,26 +1,26 @@
 //! Lists of garblings.
 
 ghost use Rattle.std.specs.Prelude.{◌≡◌, ◌≢◌, IfErr, IfOk, MatchOption, MatchResult, Some, length, map, pos};
-ghost use Rattle.gc_kept.specs.Garblings.{AreAllGarbledAt, HasFilesFault};
+ghost use Rattle.gc_kept.specs.Garblings.{AreAllGarbledAt, HasAllGarbledFault};
 ghost use Rattle.gc_kept.specs.Version.{version_of};
 ghost use Rattle.gc_kept.specs.declared.held.Held.TheVariants as held;
 ghost use Rattle.halfgates_c.specs.Answers.{Answers};
 ghost use Rattle.halfgates_c.specs.Holding.{OfGarbling, OfGarblings, OfNoGarblings};
 
+use crate::borrow::Borrow;
 use crate::code::{BAD_ARGUMENT, MEMORY, NULL_POINTER, WRONG_HANDLE, code_of};
 use crate::handle::Handle;
 use crate::list::{put_all, take_all};
-use gc_handle::Lent;
 use gc_kept::{Held, KeptGarbling, version_of, write_many};
 use std::alloc::Global;
 
 /// The garbling that a handle holds, or else the code.
-fn garbling_of(lent: &Lent<Held>) -> Result<&KeptGarbling, i32>
+fn garbling_of(borrow: &Borrow<Held>) -> Result<&KeptGarbling, i32>
     ensures { MatchResult result
-        (λ garbling. lent.now.value ≡ Some (held.Garbling garbling.now))
-        (λ code. OfGarbling lent.now.value code (λ garbling. ⊥)) }
+        (λ garbling. borrow.now.value ≡ Some (held.Garbling garbling.now))
+        (λ code. OfGarbling borrow.now.value code (λ garbling. ⊥)) }
 {
-    match lent.get() {
+    match borrow.get() {
         Some(Held::Garbling(garbling)) => Ok(garbling),
         Some(_) => Err(WRONG_HANDLE),
         None => Err(NULL_POINTER),
@@ -28,17 +28,17 @@ fn garbling_of(lent: &Lent<Held>) -> Result<&KeptGarbling, i32>
 }
 
 /// The garblings that these handles hold, or else the code of the first that holds none.
-fn garblings_of(alloc: Global, lents: &[Lent<Held>]) -> Result<Vec<&KeptGarbling, Global>, i32>
+fn garblings_of(alloc: Global, borrows: &[Borrow<Held>]) -> Result<Vec<&KeptGarbling, Global>, i32>
     ensures ok { IfOk result (λ garblings.
-        map (λ l. l.value) lents.now
+        map (λ b. b.value) borrows.now
         ≡ map (λ g. Some (held.Garbling g)) (map (λ g. g.now) garblings.items)) }
-    ensures code { IfErr result (OfNoGarblings (map (λ l. l.value) lents.now)) }
+    ensures code { IfErr result (OfNoGarblings (map (λ b. b.value) borrows.now)) }
 {
-    let Ok(mut garblings) = Vec::with_capacity(alloc, lents.len()) else {
+    let Ok(mut garblings) = Vec::with_capacity(alloc, borrows.len()) else {
         return Err(MEMORY);
     };
-    for lent in lents {
-        let garbling = garbling_of(lent)?;
+    for borrow in borrows {
+        let garbling = garbling_of(borrow)?;
         if garblings.push(garbling).is_err() {
             return Err(MEMORY);
         }
@@ -50,7 +50,7 @@ fn garblings_of(alloc: Global, lents: &[Lent<Held>]) -> Result<Vec<&KeptGarbling
 fn write_version(alloc: Global, garblings: &[&KeptGarbling], version: u32, files: &mut [u8]) -> i32
     ensures answer { MatchOption (version_of version) (result ≡ pos 60) (λ v.
         Answers result (AreAllGarbledAt (map (λ g. g.now) garblings.now) v files.old files.new)
-        (HasFilesFault (map (λ g. g.now) garblings.now) v (length files.old))) }
+        (HasAllGarbledFault (map (λ g. g.now) garblings.now) v (length files.old))) }
     ensures kept { result ≢ pos 0 → files.new ≡ files.old }
 {
     match version_of(version) {
@@ -60,14 +60,14 @@ fn write_version(alloc: Global, garblings: &[&KeptGarbling], version: u32, files
 }
 
 /// Writes the garbled files of the garblings that these handles hold.
-fn write_held(alloc: Global, lents: &[Lent<Held>], version: u32, files: &mut [u8]) -> i32
-    ensures answer { OfGarblings (map (λ l. l.value) lents.now) result (λ gs.
+fn write_held(alloc: Global, borrows: &[Borrow<Held>], version: u32, files: &mut [u8]) -> i32
+    ensures answer { OfGarblings (map (λ b. b.value) borrows.now) result (λ gs.
         MatchOption (version_of version) (result ≡ pos 60) (λ v.
         Answers result (AreAllGarbledAt gs v files.old files.new)
-        (HasFilesFault gs v (length files.old)))) }
+        (HasAllGarbledFault gs v (length files.old)))) }
     ensures kept { result ≢ pos 0 → files.new ≡ files.old }
 {
-    match garblings_of(alloc, lents) {
+    match garblings_of(alloc, borrows) {
         Ok(garblings) => write_version(alloc, &garblings, version, files),
         Err(code) => code,
     }
@@ -84,14 +84,14 @@ pub extern "C" fn halfgates_write_many(
     ensures answer { OfGarblings (map (λ h. h.held) garblings.old) result (λ gs.
         MatchOption (version_of version) (result ≡ pos 60) (λ v.
         Answers result (AreAllGarbledAt gs v files.old files.new)
-        (HasFilesFault gs v (length files.old)))) }
+        (HasAllGarbledFault gs v (length files.old)))) }
     ensures back { garblings.new ≡ garblings.old }
     ensures kept { result ≢ pos 0 → files.new ≡ files.old }
 {
-    let Ok(lents) = take_all(alloc, garblings) else {
+    let Ok(borrows) = take_all(alloc, garblings) else {
         return MEMORY;
     };
-    let code = write_held(alloc, &lents, version, files);
-    put_all(lents, garblings);
+    let code = write_held(alloc, &borrows, version, files);
+    put_all(borrows, garblings);
     code
 }

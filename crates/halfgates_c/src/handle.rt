@@ -2,11 +2,11 @@
 
 ghost use Rattle.std.specs.Prelude.{◌≡◌, ℕ};
 ghost use Rattle.std.specs.declared.option.Option.{Option};
-ghost use Rattle.gc_handle.specs.Lent.{lent_owns};
+ghost use Rattle.halfgates_c.specs.Behind.{borrow_owns};
 ghost use Rattle.gc_kept.specs.declared.held.Held.{Held};
 ghost use Rattle.gc_kept.specs.contracts.held.Held.{the_row as held_row};
 
-use gc_handle::Lent;
+use crate::borrow::Borrow;
 use gc_kept::Held;
 use std::marker::Model;
 use std::mem;
@@ -23,41 +23,41 @@ pub struct Handle {
 }
 
 impl Model for Handle {
-    ghost also_owns = { λ h. lent_owns held_row h.at h.held h.round h.parts };
+    ghost also_owns = { λ h. borrow_owns held_row h.at h.held h.round h.parts };
 }
 
 impl Handle {
-    ghost use Rattle.halfgates_c.specs.Lending.{handle_of};
+    ghost use Rattle.halfgates_c.specs.Borrowing.{handle_of};
 
-    fn of_lent(lent: Lent<Held>) -> Handle
-        ensures { result ≡ handle_of lent }
+    fn of_borrow(borrow: Borrow<Held>) -> Handle
+        ensures { result ≡ handle_of borrow }
     {
-        let Lent { at } = lent;
+        let Borrow { at } = borrow;
         Handle { at: at as *mut u8 }
     }
 
-    fn into_lent(self) -> Lent<Held>
+    fn into_borrow(self) -> Borrow<Held>
         ensures { (result.value ≡ self.held) × (self ≡ handle_of result) }
     {
         let Handle { at } = self;
-        Lent {
+        Borrow {
             at: at as *mut Held,
         }
     }
 
     /// Takes the pointer with its right to read, for the time of a call. `put` gives it back.
-    pub(crate) fn take(&mut self) -> Lent<Held>
+    pub(crate) fn take(&mut self) -> Borrow<Held>
         ensures held { result.value ≡ self.old.held }
         ensures whole { self.old ≡ handle_of result }
     {
-        mem::replace(self, Handle::of_lent(Lent::null())).into_lent()
+        mem::replace(self, Handle::of_borrow(Borrow::null())).into_borrow()
     }
 
     /// Gives back what was taken.
-    pub(crate) fn put(&mut self, lent: Lent<Held>)
-        ensures { self.new ≡ handle_of lent }
+    pub(crate) fn put(&mut self, borrow: Borrow<Held>)
+        ensures { self.new ≡ handle_of borrow }
     {
-        *self = Handle::of_lent(lent);
+        *self = Handle::of_borrow(borrow);
     }
 }
 
@@ -65,22 +65,22 @@ impl Handle {
 /// of a handle of another kind. The handle is as it was then.
 macro_rules! on_held {
     ($handle:ident, $kind:ident($it:ident) => $of_it:expr) => {{
-        let lent = $handle.take();
-        let answer = match lent.get() {
+        let borrow = $handle.take();
+        let answer = match borrow.get() {
             Some(gc_kept::Held::$kind($it)) => $of_it,
             Some(_) => crate::code::WRONG_HANDLE,
             None => crate::code::NULL_POINTER,
         };
-        $handle.put(lent);
+        $handle.put(borrow);
         answer
     }};
     ($handle:ident, $kind:ident($it:ident) => $of_it:expr, else $other:expr) => {{
-        let lent = $handle.take();
-        let answer = match lent.get() {
+        let borrow = $handle.take();
+        let answer = match borrow.get() {
             Some(gc_kept::Held::$kind($it)) => $of_it,
             _ => $other,
         };
-        $handle.put(lent);
+        $handle.put(borrow);
         answer
     }};
 }

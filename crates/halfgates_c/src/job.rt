@@ -3,7 +3,7 @@
 ghost use Rattle.std.specs.Prelude.{◌≡◌, ◌≢◌, OnOk, OnErr, IfErr, pos, length};
 ghost use Rattle.core.specs.Ptr.{as_mut_ptr};
 ghost use denote.RawPtr.{Testable};
-ghost use Rattle.gc_kept.specs.Job.{HasJobFault, AreEvaluated, HasEvaluationFault};
+ghost use Rattle.gc_kept.specs.Job.{HasKeptJobFault, AreEvaluated, HasEvaluationFault};
 ghost use Rattle.gc_kept.specs.Labels.{AreJobLabels, HasJobLabelsFault};
 ghost use Rattle.halfgates_c.specs.Answers.{Answers};
 ghost use Rattle.halfgates_c.specs.Holding.{OfCircuit, OfJob};
@@ -27,7 +27,7 @@ fn bind(
 ) -> Result<(), KeptFault>
     ensures ok { OnOk result
         (HoldsJob circuit.now garbled.now labels.now lengths.now slot.new) }
-    ensures fault { IfErr result (HasJobFault circuit.now garbled.now labels.now lengths.now) }
+    ensures fault { IfErr result (HasKeptJobFault circuit.now garbled.now labels.now lengths.now) }
     ensures kept { OnErr result (slot.new ≡ slot.old) }
 {
     let job = circuit.bind(alloc, garbled, labels, lengths)?;
@@ -47,7 +47,7 @@ pub extern "C" fn halfgates_job_bind(
     requires job { Testable (as_mut_ptr job) }
     ensures answer { OfCircuit circuit.old.held result (λ c.
         Answers result (HoldsJob c garbled.now labels.now lengths.now job.new)
-        (HasJobFault c garbled.now labels.now lengths.now)) }
+        (HasKeptJobFault c garbled.now labels.now lengths.now)) }
     ensures back { circuit.new ≡ circuit.old }
     ensures kept { result ≢ pos 0 → job.new ≡ job.old }
 {

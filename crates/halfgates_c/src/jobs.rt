@@ -1,24 +1,24 @@
 //! Lists of jobs.
 
 ghost use Rattle.std.specs.Prelude.{◌≡◌, ◌≢◌, ◌≤◌, IfErr, IfOk, MatchResult, Some, length, map, pos};
-ghost use Rattle.gc_kept.specs.Jobs.{AreAllEvaluated, HasListFault};
+ghost use Rattle.gc_kept.specs.Jobs.{AreAllEvaluated, HasJobListFault};
 ghost use Rattle.gc_kept.specs.declared.held.Held.TheVariants as held;
 ghost use Rattle.halfgates_c.specs.Answers.{Answers};
 ghost use Rattle.halfgates_c.specs.Holding.{OfJob, OfJobs, OfNoJobs};
 
+use crate::borrow::Borrow;
 use crate::code::{MEMORY, NULL_POINTER, WRONG_HANDLE, code_of};
 use crate::handle::Handle;
 use crate::list::{put_all, take_all};
-use gc_handle::Lent;
-use gc_kept::{Held, KeptJob, evaluate_many};
+use gc_kept::{Held, KeptJob, evaluate_list};
 use std::alloc::Global;
 
 /// The job that a handle holds, or else the code.
-fn job_of(lent: &Lent<Held>) -> Result<&KeptJob, i32>
-    ensures { MatchResult result (λ job. lent.now.value ≡ Some (held.Job job.now))
-        (λ code. OfJob lent.now.value code (λ job. ⊥)) }
+fn job_of(borrow: &Borrow<Held>) -> Result<&KeptJob, i32>
+    ensures { MatchResult result (λ job. borrow.now.value ≡ Some (held.Job job.now))
+        (λ code. OfJob borrow.now.value code (λ job. ⊥)) }
 {
-    match lent.get() {
+    match borrow.get() {
         Some(Held::Job(job)) => Ok(job),
         Some(_) => Err(WRONG_HANDLE),
         None => Err(NULL_POINTER),
@@ -26,17 +26,17 @@ fn job_of(lent: &Lent<Held>) -> Result<&KeptJob, i32>
 }
 
 /// The jobs that these handles hold, or else the code of the first that holds none.
-fn jobs_of(alloc: Global, lents: &[Lent<Held>]) -> Result<Vec<&KeptJob, Global>, i32>
+fn jobs_of(alloc: Global, borrows: &[Borrow<Held>]) -> Result<Vec<&KeptJob, Global>, i32>
     ensures ok { IfOk result (λ jobs.
-        map (λ l. l.value) lents.now
+        map (λ b. b.value) borrows.now
         ≡ map (λ j. Some (held.Job j)) (map (λ j. j.now) jobs.items)) }
-    ensures code { IfErr result (OfNoJobs (map (λ l. l.value) lents.now)) }
+    ensures code { IfErr result (OfNoJobs (map (λ b. b.value) borrows.now)) }
 {
-    let Ok(mut jobs) = Vec::with_capacity(alloc, lents.len()) else {
+    let Ok(mut jobs) = Vec::with_capacity(alloc, borrows.len()) else {
         return Err(MEMORY);
     };
-    for lent in lents {
-        let job = job_of(lent)?;
+    for borrow in borrows {
+        let job = job_of(borrow)?;
         if jobs.push(job).is_err() {
             return Err(MEMORY);
         }
@@ -45,14 +45,14 @@ fn jobs_of(alloc: Global, lents: &[Lent<Held>]) -> Result<Vec<&KeptJob, Global>,
 }
 
 /// Evaluates the jobs that these handles hold.
-fn evaluate_held(alloc: Global, lents: &[Lent<Held>], bits: &mut [u8]) -> i32
-    ensures answer { OfJobs (map (λ l. l.value) lents.now) result (λ jobs.
+fn evaluate_held(alloc: Global, borrows: &[Borrow<Held>], bits: &mut [u8]) -> i32
+    ensures answer { OfJobs (map (λ b. b.value) borrows.now) result (λ jobs.
         Answers result (AreAllEvaluated jobs bits.old bits.new)
-        (HasListFault jobs (length bits.old))) }
+        (HasJobListFault jobs (length bits.old))) }
     ensures kept { result ≢ pos 0 → bits.new ≡ bits.old }
 {
-    match jobs_of(alloc, lents) {
-        Ok(jobs) => code_of(evaluate_many(alloc, &jobs, bits)),
+    match jobs_of(alloc, borrows) {
+        Ok(jobs) => code_of(evaluate_list(alloc, &jobs, bits)),
         Err(code) => code,
     }
 }
@@ -66,14 +66,14 @@ pub extern "C" fn halfgates_evaluate_many(
 ) -> i32
     ensures answer { OfJobs (map (λ h. h.held) jobs.old) result (λ js.
         Answers result (AreAllEvaluated js bits.old bits.new)
-        (HasListFault js (length bits.old))) }
+        (HasJobListFault js (length bits.old))) }
     ensures back { jobs.new ≡ jobs.old }
     ensures kept { result ≢ pos 0 → bits.new ≡ bits.old }
 {
-    let Ok(lents) = take_all(alloc, jobs) else {
+    let Ok(borrows) = take_all(alloc, jobs) else {
         return MEMORY;
     };
-    let code = evaluate_held(alloc, &lents, bits);
-    put_all(lents, jobs);
+    let code = evaluate_held(alloc, &borrows, bits);
+    put_all(borrows, jobs);
     code
 }

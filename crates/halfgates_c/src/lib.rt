@@ -6,6 +6,8 @@
 
 mod audit;
 mod audit_labels;
+mod borrow;
+mod box_parts;
 mod circuit;
 mod code;
 mod files;

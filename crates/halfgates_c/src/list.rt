@@ -1,10 +1,10 @@
 //! Lists of handles.
 
 ghost use Rattle.std.specs.Prelude.{◌≡◌, IfOk, OnErr, length, map};
-ghost use Rattle.halfgates_c.specs.Lending.{handle_of};
+ghost use Rattle.halfgates_c.specs.Borrowing.{handle_of};
 
+use crate::borrow::Borrow;
 use crate::handle::Handle;
-use gc_handle::Lent;
 use gc_kept::Held;
 use std::alloc::{AllocError, Global};
 
@@ -12,25 +12,25 @@ use std::alloc::{AllocError, Global};
 pub(crate) fn take_all(
     alloc: Global,
     handles: &mut [Handle],
-) -> Result<Vec<Lent<Held>, Global>, AllocError>
-    ensures taken { IfOk result (λ lents. handles.old ≡ map handle_of lents.items) }
+) -> Result<Vec<Borrow<Held>, Global>, AllocError>
+    ensures taken { IfOk result (λ borrows. handles.old ≡ map handle_of borrows.items) }
     ensures count { length handles.new ≡ length handles.old }
     ensures kept { OnErr result (handles.new ≡ handles.old) }
 {
-    let mut lents = Vec::with_capacity(alloc, handles.len())?;
+    let mut borrows = Vec::with_capacity(alloc, handles.len())?;
     for i in 0..handles.len() {
-        lents.push_reserved(handles[i].take());
+        borrows.push_reserved(handles[i].take());
     }
-    Ok(lents)
+    Ok(borrows)
 }
 
 /// Gives back what was taken.
-pub(crate) fn put_all(mut lents: Vec<Lent<Held>, Global>, handles: &mut [Handle])
-    requires { length handles.old ≡ length lents.items }
-    ensures { handles.new ≡ map handle_of lents.items }
+pub(crate) fn put_all(mut borrows: Vec<Borrow<Held>, Global>, handles: &mut [Handle])
+    requires { length handles.old ≡ length borrows.items }
+    ensures { handles.new ≡ map handle_of borrows.items }
 {
-    while let Some(lent) = lents.pop() {
-        let place = lents.len();
-        handles[place].put(lent);
+    while let Some(borrow) = borrows.pop() {
+        let place = borrows.len();
+        handles[place].put(borrow);
     }
 }

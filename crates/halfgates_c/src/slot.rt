@@ -1,12 +1,12 @@
 //! C's pointer to a handle, which C owns.
 
-ghost use Rattle.std.specs.Prelude.{◌≡◌, OnOk, OnErr, IfOk, IfErr};
+ghost use Rattle.std.specs.Prelude.{◌≡◌, None, Some, MatchOption, OnOk, OnErr, IfOk, IfErr};
 ghost use Rattle.std.specs.declared.option.Option.{Option};
-ghost use Rattle.gc_handle.specs.Behind.{behind};
 ghost use Rattle.gc_kept.specs.declared.held.Held.{Held};
 ghost use Rattle.gc_kept.specs.contracts.held.Held.{the_row as held_row};
+ghost use Rattle.halfgates_c.specs.Behind.{box_behind};
 
-use gc_handle::Pointer;
+use crate::box_parts::BoxParts;
 use gc_kept::{Held, KeptFault};
 use std::alloc::Global;
 use std::marker::Model;
@@ -22,29 +22,35 @@ pub struct Slot {
 }
 
 impl Model for Slot {
-    ghost also_owns = { λ s. behind held_row s.alloc s.at s.held };
+    ghost also_owns = { λ s. box_behind held_row s.alloc s.at s.held };
 }
 
 impl Slot {
     ghost use Rattle.halfgates_c.specs.Holding.{Holds};
 
-    fn of_pointer(pointer: Pointer<Held>) -> Slot
-        ensures { result.held ≡ pointer.value }
+    /// The pointer of a box in its parts.
+    fn of_parts(parts: BoxParts<Held, Global>) -> Slot
+        ensures { result.held ≡ Some parts.value }
     {
-        let Pointer { at, alloc } = pointer;
+        let BoxParts { at, alloc } = parts;
         Slot {
             at: at as *mut u8,
             alloc,
         }
     }
 
-    fn into_pointer(self) -> Pointer<Held>
-        ensures { result.value ≡ self.held }
+    /// The parts of the box, and `None` at null.
+    fn into_parts(self) -> Option<BoxParts<Held, Global>>
+        ensures { MatchOption result (self.held ≡ None) (λ parts. self.held ≡ Some parts.value) }
     {
         let Slot { at, alloc } = self;
-        Pointer {
-            at: at as *mut Held,
-            alloc,
+        if at.is_null() {
+            None
+        } else {
+            Some(BoxParts {
+                at: at as *mut Held,
+                alloc,
+            })
         }
     }
 
@@ -54,8 +60,8 @@ impl Slot {
         ensures fault { IfErr result (λ fault. fault ≡ KeptFault.Memory) }
         ensures kept { OnErr result (self.new ≡ self.old) }
     {
-        let pointer = Slot::holding(alloc, held)?;
-        mem::forget(mem::replace(self, pointer));
+        let slot = Slot::holding(alloc, held)?;
+        mem::forget(mem::replace(self, slot));
         Ok(())
     }
 
@@ -64,12 +70,14 @@ impl Slot {
         ensures done { IfOk result (λ slot. Holds slot held) }
         ensures fault { IfErr result (λ fault. fault ≡ KeptFault.Memory) }
     {
-        Ok(Slot::of_pointer(Pointer::of(Box::new(alloc, held)?)))
+        Ok(Slot::of_parts(BoxParts::of(Box::new(alloc, held)?)))
     }
 }
 
 impl Drop for Slot {
     fn drop(self) {
-        let _freed = self.into_pointer().into_box();
+        if let Some(parts) = self.into_parts() {
+            drop(parts.into_box());
+        }
     }
 }

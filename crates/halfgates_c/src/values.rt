@@ -9,7 +9,7 @@ ghost use Rattle.gc_half.specs.Garbling.{decode_bits_of};
 ghost use Rattle.gc_file.specs.GarbledFile.{row_bytes};
 ghost use Rattle.gc_audit.specs.Labels.{first_wire_of};
 ghost use Rattle.gc_kept.specs.Files.{IsFileAt, HasRoomFault};
-ghost use Rattle.gc_kept.specs.Labels.{AreLabelsOf, HasValueFault, first_output_of};
+ghost use Rattle.gc_kept.specs.Labels.{AreValueLabels, HasValueLabelsFault, first_output_of};
 ghost use Rattle.halfgates_c.specs.Answers.{Answers};
 ghost use Rattle.halfgates_c.specs.Holding.{OfGarbling};
 
@@ -45,9 +45,9 @@ pub extern "C" fn halfgates_input_labels(
     one: &mut [u8],
 ) -> i32
     ensures answer { OfGarbling garbling.old.held result (λ g.
-        Answers result (AreLabelsOf g g.circuit.input_widths index
+        Answers result (AreValueLabels g g.circuit.input_widths index
         (first_wire_of g.circuit index) zero.old zero.new one.old one.new)
-        (HasValueFault g.circuit.input_widths index (length zero.old) (length one.old))) }
+        (HasValueLabelsFault g.circuit.input_widths index (length zero.old) (length one.old))) }
     ensures back { garbling.new ≡ garbling.old }
     ensures zero_kept { result ≢ pos 0 → zero.new ≡ zero.old }
     ensures one_kept { result ≢ pos 0 → one.new ≡ one.old }
@@ -66,9 +66,9 @@ pub extern "C" fn halfgates_output_labels(
     one: &mut [u8],
 ) -> i32
     ensures answer { OfGarbling garbling.old.held result (λ g.
-        Answers result (AreLabelsOf g g.circuit.output_widths index
+        Answers result (AreValueLabels g g.circuit.output_widths index
         (first_output_of g.circuit index) zero.old zero.new one.old one.new)
-        (HasValueFault g.circuit.output_widths index (length zero.old) (length one.old))) }
+        (HasValueLabelsFault g.circuit.output_widths index (length zero.old) (length one.old))) }
     ensures back { garbling.new ≡ garbling.old }
     ensures zero_kept { result ≢ pos 0 → zero.new ≡ zero.old }
     ensures one_kept { result ≢ pos 0 → one.new ≡ one.old }

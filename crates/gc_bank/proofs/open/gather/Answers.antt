@@ -8,7 +8,7 @@ pub loop-seat-init : goal.loop-seat-init
 loop-seat-init g c =
     let Own : BankSeat _ _ _ → Type 0 =
     λ s. IsGatePlace two_banks gates_of c.args.words.now.table_id c.args.words.now.key s.place in
-    let Out : BankSeat _ _ _ → Type 0 = λ s. s.place.me.0.stand ≡ Outside in
+    let Out : BankSeat _ _ _ → Type 0 = λ s. s.place.me.0.position ≡ Outside in
     let is = c.in-Some.ensures.items in (
       all_last _ _ _ is Own c.requires.own,
       all_but_last _ _ _ is Own c.requires.own,
@@ -28,7 +28,7 @@ join_place-requires-clause-other g c =
 
 pub join_place-requires-clause-idle : goal.join_place-requires-clause-idle
 join_place-requires-clause-idle g c =
-    let Out : BankSeat _ _ _ → Type 0 = λ s. s.place.me.0.stand ≡ Outside in
+    let Out : BankSeat _ _ _ → Type 0 = λ s. s.place.me.0.position ≡ Outside in
     let seat = c.in-Some-pop.seat in (
       all_last _ _ _ c.in-Some-pop.ensures.items Out c.loop-seat.invariant.2,
       seat.at_rest.0,
@@ -39,7 +39,7 @@ pub loop-seat-preserved : goal.loop-seat-preserved
 loop-seat-preserved g c =
     let Own : BankSeat _ _ _ → Type 0 =
     λ s. IsGatePlace two_banks gates_of c.args.words.now.table_id c.args.words.now.key s.place in
-    let Out : BankSeat _ _ _ → Type 0 = λ s. s.place.me.0.stand ≡ Outside in
+    let Out : BankSeat _ _ _ → Type 0 = λ s. s.place.me.0.position ≡ Outside in
     let is = c.in-Some-pop.ensures.items in
     let kept = c.join_place.ensures in
     let i = c.loop-seat.invariant in (

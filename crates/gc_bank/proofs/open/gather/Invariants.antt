@@ -7,7 +7,7 @@ invariant-loop-seat g l =
     × All (λ (s : BankSeat _ _ _).
     IsGatePlace two_banks gates_of l.words.table_id l.words.key s.place)
     l.seats.items
-    × All (λ (s : BankSeat _ _ _). s.place.me.0.stand ≡ Outside) l.seats.items
+    × All (λ (s : BankSeat _ _ _). s.place.me.0.position ≡ Outside) l.seats.items
     × (l.whole.me.0.seats + length l.seats.items ≡ length l.fn.seats.items)
     × ((r g' : ℕ) → pairs r g' l.whole.me.0.inner.made
     + total (λ (s : BankSeat _ _ _). pairs r g' s.place.me.0.inner.made) l.seats.items

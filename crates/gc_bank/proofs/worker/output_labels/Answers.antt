@@ -6,7 +6,7 @@ pub loop-i-preserved : goal.loop-i-preserved
 loop-i-preserved g c =
     let before = c.loop-i.invariant in (
       c.label.ensures.own,
-      c.label.ensures.ran.stand ∙ before.1,
+      c.label.ensures.ran.position ∙ before.1,
       λ job there.
           let got = rw (before.1, there) at c.in-Some.ensures.some in
           rw (c.in_ok-push.ensures.items, before.2 job there, got.right)

@@ -1,33 +1,74 @@
-use Rattle.std.proofs.Common.{string_bytes, of_calls}
+use Rattle.gc_command.proofs.Names.{◌≡◌, ◌∙◌, string_bytes, AreFew, IfOk-weaker, IfErr-weaker}
+use Rattle.std.specs.Prelude.{IfOk}
+use Rattle.std.proofs.Common.{of_calls}
 use Rattle.gc_disk.specs.Files.{GivesFile}
-use Rattle.gc_command.proofs.Names.{IfOk-weaker, AreFew}
+use Rattle.gc_half.specs.Garbling.{IsGarbled}
+use Rattle.gc_work.specs.WorkFault.{JudgesWorkers}
 use Rattle.gc_command.specs.Garble.{IsGarbleInput}
-use Rattle.gc_command.proofs.AnswerLemmas.{found_where_known}
-use Rattle.gc_command.proofs.WroteLemmas.{IfSome-both}
+use Rattle.gc_command.proofs.AnswerLemmas.{IfSome-map, found_where_known}
+use Rattle.gc_command.proofs.WroteLemmas.{IfSome-both, garble-unwritten}
 use Rattle.gc_command.proofs.garble.garble.Goals as goal
 
 pub returns-clause-answers : goal.returns-clause-answers
 returns-clause-answers g c =
-    let made = c.in_ok-circuit.field-0 in
+    let made = c.in_ok-circuit.ensures.made in
     let seed = string_bytes c.args.order.now.seed in
     let text = c.as_slice-text.result.now in
     let held = g.F.Files.bytes c.args.files.now c.as_str.result.now in
     let given : GivesFile held text = rw c.as_slice-text.ensures.value c.in_ok-bytes.ensures.given in
-    let input : IsGarbleInput text seed made.circuit made.seed = search of_calls in
-    let few : AreFew c.args.order.now.workers = search of_calls in
+    let read : IsGarbleInput text seed c.in_ok-circuit.circuit made.0 = search (made.1, of_calls) in
+    let judged : JudgesWorkers c.args.order.now.workers c.in_ok-circuit.made =
+    search (made.2, of_calls) in
+    let passed : IfOk c.in_ok-circuit.made (λ m. m.1 ≡ made.0) = search (made.2, of_calls) in
+    let is : IfOk c.in_ok-circuit.made (λ m. IsGarbled c.in_ok-circuit.circuit made.0 m.0) =
+    search (made.2, of_calls) in
+    let same = rw c.in_ok-garbling.was at passed in
+    let input : IsGarbleInput text seed c.in_ok-circuit.circuit c.in_ok-garbling.seed =
+    rw same read in
+    let few : AreFew c.args.order.now.workers = rw c.in_ok-garbling.was at judged in
+    let garbled : IsGarbled c.in_ok-circuit.circuit c.in_ok-garbling.seed c.in_ok-garbling.garbling =
+    rw same (rw c.in_ok-garbling.was at is) in
     rw (← c.as_str.ensures.value)
     (IfOk-weaker c.write_garbling.result _ _
     (λ lines written. IfSome-both held
-    (λ bytes. IsGarbleInput bytes seed made.circuit made.seed) _ _
-    (λ bytes read wrote. record {
-      circuit = made.circuit;
-      seed = made.seed;
-      input = read;
-      garbling = wrote.garbling;
+    (λ bytes. IsGarbleInput bytes seed c.in_ok-circuit.circuit c.in_ok-garbling.seed) _ _
+    (λ bytes holds wrote. record {
+      circuit = c.in_ok-circuit.circuit;
+      seed = c.in_ok-garbling.seed;
+      input = holds;
       few = few;
-      garbled = wrote.garbled;
-      written = wrote.written;
+      garbling = c.in_ok-garbling.garbling;
+      garbled = garbled;
+      written = rw c.offset.ensures at wrote;
     })
-    (found_where_known (λ bytes. IsGarbleInput bytes seed made.circuit made.seed) held text given input)
-    (rw (c.read_text.ensures.same c.as_str.result.now) at (written c.as_str.result.now)))
+    (found_where_known
+    (λ bytes. IsGarbleInput bytes seed c.in_ok-circuit.circuit c.in_ok-garbling.seed) held text given
+    input)
+    (rw (c.read.ensures.same c.as_str.result.now) at (written c.as_str.result.now)))
     c.write_garbling.ensures.written)
+
+pub returns-clause-fault : goal.returns-clause-fault
+returns-clause-fault g c =
+    let made = c.in_ok-circuit.ensures.made in
+    let seed = string_bytes c.args.order.now.seed in
+    let text = c.as_slice-text.result.now in
+    let held = g.F.Files.bytes c.args.files.now c.as_str.result.now in
+    let given : GivesFile held text = rw c.as_slice-text.ensures.value c.in_ok-bytes.ensures.given in
+    let read : IsGarbleInput text seed c.in_ok-circuit.circuit made.0 = search (made.1, of_calls) in
+    let judged : JudgesWorkers c.args.order.now.workers c.in_ok-circuit.made =
+    search (made.2, of_calls) in
+    let few : AreFew c.args.order.now.workers = rw c.in_ok-garbling.was at judged in
+    rw (← c.as_str.ensures.value)
+    (IfErr-weaker c.write_garbling.result _ _
+    (λ fault unwritten. IfSome-map held
+    (λ bytes. IsGarbleInput bytes seed c.in_ok-circuit.circuit made.0) _
+    (λ bytes input. garble-unwritten bytes seed c.args.order.now.workers c.in_ok-circuit.circuit
+    made.0 input few fault unwritten)
+    (found_where_known (λ bytes. IsGarbleInput bytes seed c.in_ok-circuit.circuit made.0) held text
+    given read))
+    c.write_garbling.ensures.fault)
+
+pub returns-clause-unwritten : goal.returns-clause-unwritten
+returns-clause-unwritten g c = IfErr-weaker c.write_garbling.result _ _
+    (λ fault same n. same n ∙ c.read.ensures.same n)
+    c.write_garbling.ensures.unwritten

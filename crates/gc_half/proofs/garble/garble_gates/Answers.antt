@@ -1,10 +1,11 @@
 use Rattle.gc_half.proofs.Names.{◌≡◌, ◌+◌, ◌<◌, length, sym, ◌∙◌, inr, arith, IsSetBefore, EachRead-map, IsSetBefore-more}
-use Rattle.gc_half.proofs.BegunLemmas.{garbled-later, table-few}
+use Rattle.gc_half.specs.Hash.{hash, numbered_from}
+use Rattle.gc_half.proofs.GarbleLemmas.{few_rows, garbled-next}
 use Rattle.gc_half.proofs.garble.garble_gates.Goals as goal
 
 pub loop-i-init : goal.loop-i-init
 loop-i-init g c =
-    record { garbled = λ first given apart is. is; compared = λ given is. is }
+    record { garbled = λ first given is. is; compared = λ given is. is }
 
 pub step-requires : goal.step-requires
 step-requires g c =
@@ -13,14 +14,14 @@ step-requires g c =
     let i = c.loop-i.i in
     let at = c.gate.ensures in
     let begun = c.requires.begun in
-    let before = c.loop-i.invariant.garbled _ _ _ begun.3 in
+    let before = c.loop-i.invariant.garbled _ _ begun.2 in
     record {
       read =
           EachRead-map (IsSetBefore netlist i) (λ w. w < length c.loop-i.table.labels)
           c.gate.result.operation before.garbled.there (lawful.reads i c.gate.result at);
       place = omega (arith, lawful.sets i c.gate.result at);
       few = omega (arith, before.garbled.few);
-      number = omega (arith, table-few _ _ _ _ _ _ _ before);
+      number = omega (arith, few_rows _ _ _ _ _ _ _ before.garbled);
       once = before.waiting c.gate.result.set (lawful.sets_once i c.gate.result at);
     }
 
@@ -32,14 +33,14 @@ loop-i-preserved g c =
     let at = c.gate.ensures in
     let step = c.in_ok-step.ensures in
     record {
-      garbled = λ first given apart began.
-          let before = c.loop-i.invariant.garbled first given apart began in
+      garbled = λ first given began.
+          let before = c.loop-i.invariant.garbled first given began in
           record {
             numbered = step.numbered ∙ before.numbered;
             garbled =
-                garbled-later first c.args.offset netlist given apart lawful i _ at _ _ _ _
-                before.garbled _ before.numbered step.label step.there step.kept
-                (omega (arith, step.few)) step.rows;
+                garbled-next (numbered_from first hash) c.args.offset netlist given lawful i _ at
+                _ _ _ _ before.garbled (λ w. rw before.numbered at (step.label w)) step.there
+                step.kept (omega (arith, step.few)) (rw before.numbered at step.rows);
             waiting = λ w unset.
                 step.waiting w
                 (λ same. unset (inr (

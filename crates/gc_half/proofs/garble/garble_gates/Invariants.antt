@@ -1,4 +1,4 @@
-use Rattle.gc_half.specs.Begun.{GarblesTo}
+use Rattle.gc_half.specs.FirstGates.{GarblesTo}
 use Rattle.gc_half.specs.Comparing.{KeepsCompared}
 use Rattle.gc_half.proofs.garble.garble_gates.Given as goal
 

@@ -1,14 +1,12 @@
-use Rattle.gc_half.proofs.Names.{[], refl}
-use Rattle.gc_half.proofs.BegunLemmas.{table-start}
+use Rattle.gc_half.proofs.Names.{refl}
 use Rattle.gc_half.proofs.ComparingLemmas.{compared-end}
-use Rattle.gc_half.proofs.GarbleLemmas.{garbled-end}
+use Rattle.gc_half.proofs.GarbleLemmas.{garbled-end, table-start}
 use Rattle.gc_half.proofs.garble.garble_over.Goals as goal
 
 pub garble_gates-requires-clause-begun : goal.garble_gates-requires-clause-begun
 garble_gates-requires-clause-begun g c = (
   c.args.first,
   c.args.labels.items,
-  [],
   rw (c.new-begun.ensures, c.new.ensures)
       (table-start c.args.first c.args.offset c.args.circuit.now c.gates.ensures.lawful
       c.args.labels.items c.requires _),
@@ -22,7 +20,7 @@ returns g c =
     let made = c.in_ok-zero_labels in
     let finish = c.finish-rows.ensures in
     let table = c.in_ok-table.ensures in
-    let garbled = table.garbled first c.args.labels.items []
+    let garbled = table.garbled first c.args.labels.items
     (rw (c.new-begun.ensures, c.new.ensures)
     (table-start first c.args.offset netlist c.gates.ensures.lawful c.args.labels.items
     c.requires _)) in

@@ -6,7 +6,7 @@ use Rattle.gc_half.proofs.two.garble_both.Goals as goal
 pub loop-i-init : goal.loop-i-init
 loop-i-init g c =
     let lawful = c.gates-i-end.ensures.lawful in
-    let h = numbered_from c.args.first hash in
+    let h = numbered_from 0 hash in
     rw (c.requires.none, c.requires.no_other)
     (record {
       offset = refl;
@@ -42,7 +42,7 @@ step-requires-clause-same g c =
 
 pub loop-i-preserved : goal.loop-i-preserved
 loop-i-preserved g c =
-    let h = numbered_from c.args.first hash in
+    let h = numbered_from 0 hash in
     let netlist = c.args.circuit.now in
     let lawful = c.gates-i-end.ensures.lawful in
     let at = c.gate.ensures in
@@ -65,7 +65,7 @@ returns-clause-one g c =
     let before = c.loop-i.invariant in
     let ends : c.loop-i.i ≡ length c.args.circuit.now.gates = omega arith in
     rw c.in_ok-finish.ensures
-    (garbled-end c.args.first c.args.one.offset c.args.circuit.now c.args.one.labels.items
+    (garbled-end 0 c.args.one.offset c.args.circuit.now c.args.one.labels.items
     c.gates-i-end.ensures.lawful c.requires.one c.loop-i.one.labels.items _ _ _ _ _
     (rw (← ends) before.one) refl refl refl refl)
 
@@ -74,6 +74,6 @@ returns-clause-other g c =
     let before = c.loop-i.invariant in
     let ends : c.loop-i.i ≡ length c.args.circuit.now.gates = omega arith in
     rw c.in_ok-finish-2.ensures
-    (garbled-end c.args.first c.args.other.offset c.args.circuit.now c.args.other.labels.items
+    (garbled-end 0 c.args.other.offset c.args.circuit.now c.args.other.labels.items
     c.gates-i-end.ensures.lawful c.requires.other c.loop-i.other.labels.items _ _ _ _ _
     (rw (← ends) before.other) refl refl refl refl)

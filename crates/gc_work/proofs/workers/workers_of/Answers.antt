@@ -3,7 +3,7 @@ use Rattle.gc_work.proofs.workers.workers_of.Goals as goal
 
 pub loop-placed-preserved : goal.loop-placed-preserved
 loop-placed-preserved g c =
-    let pools = c.args.pools.now in
+    let pools = c.args.opened.pools.items in
     let was = c.loop-placed.invariant in
     let held = All-pop (λ o. slice_get pools o.place ≡ Some o.owner.pool) _ _
     (Some c.in-Some.placed) c.in-Some.ensures.items was.owners in

@@ -3,9 +3,9 @@ use Rattle.gc_work.proofs.workers.workers_of.Given as goal
 
 abbrev pub invariant-loop-placed : goal.invariant-loop-placed
 invariant-loop-placed g l = record {
-  owners : AreOwners l.pools l.owners.items;
-  rows : AreRows l.pools l.rows.items;
-  workers : All (λ w. IsReady l.pools w) l.workers.items;
+  owners : AreOwners l.pools.items l.owners.items;
+  rows : AreRows l.pools.items l.rows.items;
+  workers : All (λ w. IsReady l.pools.items w) l.workers.items;
 }
 
 abbrev pub decreases-loop-placed : goal.decreases-loop-placed

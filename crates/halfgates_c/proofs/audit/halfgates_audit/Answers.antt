@@ -5,7 +5,7 @@ use Rattle.halfgates_c.proofs.audit.halfgates_audit.Goals as goal
 
 pub returns-clause-answer : goal.returns-clause-answer
 returns-clause-answer c =
-    let held = c.take-lent.ensures.held in
+    let held = c.take-borrow.ensures.held in
     elim c.match-get.branch [
       | in-Some-Garbling w ↦
           of_garbling _ _ held w.in-Some-Garbling.ensures w.in-Some-Garbling.field-0-is

@@ -5,7 +5,7 @@ use Rattle.halfgates_c.proofs.files.halfgates_label_file.Goals as goal
 
 pub returns-clause-answer : goal.returns-clause-answer
 returns-clause-answer c =
-    let held = c.take-lent.ensures.held in
+    let held = c.take-borrow.ensures.held in
     elim c.match-get.branch [
       | in-Some-Circuit w ↦
           of_circuit _ _ held w.in-Some-Circuit.ensures w.in-Some-Circuit.field-0-is

@@ -2,7 +2,7 @@ use Rattle.std.proofs.Common.{◌≡◌, MatchOption, inr, length, map, pos, rul
 use Rattle.std.proofs.lemmas.Int.{to_z-of_z}
 use mir.Syntax.{w32}
 use mir.Val.{SFits}
-use Rattle.gc_kept.specs.Garblings.{AreAllGarbledAt, HasFilesFault}
+use Rattle.gc_kept.specs.Garblings.{AreAllGarbledAt, HasAllGarbledFault}
 use Rattle.gc_kept.specs.Version.{version_of}
 use Rattle.halfgates_c.specs.Answers.{Answers}
 use Rattle.halfgates_c.proofs.ListLemmas.{all_garblings, no_garblings}
@@ -18,7 +18,7 @@ returns-in-Err-clause-answer c =
     let fits : SFits w32 c.in-Err.code = search rules in
     let old = c.args.files.now in
     rw (to_z-of_z w32 c.in-Err.code fits)
-    (no_garblings (map (λ l. l.value) c.args.lents.now) c.in-Err.code
+    (no_garblings (map (λ b. b.value) c.args.borrows.now) c.in-Err.code
     (λ gs. MatchOption (version_of c.args.version) (c.in-Err.code ≡ pos 60)
-    (λ v. Answers c.in-Err.code (AreAllGarbledAt gs v old old) (HasFilesFault gs v (length old))))
+    (λ v. Answers c.in-Err.code (AreAllGarbledAt gs v old old) (HasAllGarbledFault gs v (length old))))
     c.in-Err.ensures.code)

@@ -5,7 +5,7 @@ use Rattle.halfgates_c.proofs.job.halfgates_evaluate.Goals as goal
 
 pub returns-clause-answer : goal.returns-clause-answer
 returns-clause-answer c =
-    let held = c.take-lent.ensures.held in
+    let held = c.take-borrow.ensures.held in
     elim c.match-get.branch [
       | in-Some-Job w ↦
           of_job _ _ held w.in-Some-Job.ensures w.in-Some-Job.field-0-is

@@ -2,7 +2,7 @@ use Rattle.std.proofs.Common.{inr, length, map, rules}
 use Rattle.std.proofs.lemmas.Int.{to_z-of_z}
 use mir.Syntax.{w32}
 use mir.Val.{SFits}
-use Rattle.gc_kept.specs.Jobs.{AreAllEvaluated, HasListFault}
+use Rattle.gc_kept.specs.Jobs.{AreAllEvaluated, HasJobListFault}
 use Rattle.halfgates_c.specs.Answers.{Answers}
 use Rattle.halfgates_c.proofs.ListLemmas.{all_jobs, no_jobs}
 use Rattle.halfgates_c.proofs.jobs.evaluate_held.Goals as goal
@@ -17,6 +17,6 @@ returns-in-Err-clause-answer c =
     let fits : SFits w32 c.in-Err.code = search rules in
     let old = c.args.bits.now in
     rw (to_z-of_z w32 c.in-Err.code fits)
-    (no_jobs (map (λ l. l.value) c.args.lents.now) c.in-Err.code
-    (λ jobs. Answers c.in-Err.code (AreAllEvaluated jobs old old) (HasListFault jobs (length old)))
+    (no_jobs (map (λ b. b.value) c.args.borrows.now) c.in-Err.code
+    (λ jobs. Answers c.in-Err.code (AreAllEvaluated jobs old old) (HasJobListFault jobs (length old)))
     c.in-Err.ensures.code)

@@ -12,6 +12,6 @@ returns-clause-answer c =
     rw (
       to_z-of_z w32 code.result fits,
       c.in-Ok.ensures.taken,
-      held_of c.in-Ok.lents.items,
+      held_of c.in-Ok.borrows.items,
       ← c.deref.ensures.value,
     ) code.ensures.answer

@@ -6,7 +6,7 @@ pub returns-clause-answers : goal.returns-clause-answers
 returns-clause-answers g c =
     let old = view c.args.seat.now in
     let a = c.args in
-    let inside : old.stand ≡ Inside c.in-Some.round =
+    let inside : old.position ≡ Inside c.in-Some.round =
     (a.seat.now.within c.in-Some.round c.in-Some.is).0 in
     in_round (jobs_on a.self.now) old c.in-Some.round c.at.result.job.now
     (λ r job. AnswersFour job r a.a a.b a.c a.d 72 old c.step_four-answers.new.place.me.0

@@ -7,4 +7,4 @@ invariant-loop-k g l =
     Wrote g.O.Observer.saw l.initial.self l.self (g.S.Sink.taken l.initial.sink)
     (g.S.Sink.taken l.sink)
     (g.S.Sink.failures l.initial.sink) (g.S.Sink.failures l.sink)
-    (flat_map entry_bytes (entry_pairs_from l.offset l.garbling 0 (4 * l.k)))
+    (flat_map entry_bytes (entry_pairs_from l.of.offset l.of.garbling.now 0 (4 * l.k)))

@@ -1,5 +1,5 @@
 use Rattle.gc_steps.proofs.Names.{arith, sym, ◌∙◌, refl, ◌<◌, only_other, set_once, set_within}
-use Rattle.gc_steps.proofs.RunLemmas.{got_input, unknown, undone, saw_step, still_in, jobs_same, all_same, job_same, stand_same}
+use Rattle.gc_steps.proofs.RunLemmas.{got_input, unknown, undone, saw_step, still_in, jobs_same, all_same, job_same, position_same}
 use Rattle.gc_steps.proofs.round.Round.label.Given.{Over}
 use Rattle.gc_steps.proofs.round.Round.label.Goals.{In-Some}
 use Rattle.gc_steps.proofs.round.Round.label.Goals as goal
@@ -42,7 +42,7 @@ load_label-requires-clause-place g c =
     record {
       place = still_in c.requires.place.place c.load_state.ensures.same
           (jobs_same view) (all_same view) (job_same view);
-      inside = stand_same view ∙ c.requires.place.inside;
+      inside = position_same view ∙ c.requires.place.inside;
       exists = exists g (goal.at.load_label-requires-clause-place g c).In-Some;
     }
 

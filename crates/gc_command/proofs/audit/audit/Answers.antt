@@ -1,0 +1,115 @@
+use Rattle.std.proofs.Common.{map, string_bytes, rules, ◌∙◌, ◌≡◌, IfErr, IfOk, sym, ap, MatchOption}
+use Rattle.gc_command.proofs.JobsNames.{subst}
+use Rattle.gc_command.proofs.Names.{fun_ext, err_from_is_err_and, HasFailed, AreEvalFiles}
+use Rattle.gc_half.specs.Canonical.{garbling_of}
+use Rattle.gc_audit.specs.Garbled.{AreCountsRight, IsPartsAudit}
+use Rattle.gc_command.specs.Audit.{IsAuditFault}
+use Rattle.gc_command.specs.SeedText.{IsSeed}
+use Rattle.gc_work.specs.declared.fault.WorkFault.TheVariants as work
+use Rattle.gc_command.proofs.audit.audit.Goals as goal
+
+pub returns-in_err-circuit-clause-fault : goal.returns-in_err-circuit-clause-fault
+returns-in_err-circuit-clause-fault g c =
+    let p = err_from_is_err_and c.from_residual-in_err-circuit.result
+    c.from_residual-in_err-circuit.ensures.1 in
+    let order = c.args.order.now in
+    let step = c.in_err-circuit.ensures.fault in
+    let s = step.met.0.said-raw.1.1.1.1 in
+    let now = c.files-1.given.1 (search (step.met.1, rules)) ∙ s.1.1 in
+    let is : IsAuditFault (g.F.Files.bytes c.read.new.self)
+    (HasFailed (g.F.Files.failures c.read.new.self) (g.F.Files.failures s.0.new.1.1.1.0))
+    (string_bytes order.circuit) (string_bytes order.seed) (string_bytes order.garbled)
+    (map string_bytes order.labels.items) c.in_err-circuit.field-0.0 =
+    subst (λ r. IfErr r (IsAuditFault (g.F.Files.bytes c.read.new.self)
+    (HasFailed (g.F.Files.failures c.read.new.self) (g.F.Files.failures s.0.new.1.1.1.0))
+    (string_bytes order.circuit) (string_bytes order.seed) (string_bytes order.garbled)
+    (map string_bytes order.labels.items))) (sym s.1.0) s.0.ensures.1.1.0 in
+    let at_end : IsAuditFault (g.F.Files.bytes c.read.new.self)
+    (HasFailed (g.F.Files.failures c.read.new.self) (g.F.Files.failures c.files-1.given.0))
+    (string_bytes order.circuit) (string_bytes order.seed) (string_bytes order.garbled)
+    (map string_bytes order.labels.items) c.in_err-circuit.field-0.0 =
+    subst (λ f. IsAuditFault (g.F.Files.bytes c.read.new.self)
+    (HasFailed (g.F.Files.failures c.read.new.self) (g.F.Files.failures f))
+    (string_bytes order.circuit) (string_bytes order.seed) (string_bytes order.garbled)
+    (map string_bytes order.labels.items) c.in_err-circuit.field-0.0) (sym now) is in
+    rw (p.1, p.2)
+    (rw (fun_ext c.read.ensures.same, c.in_ok-bytes.ensures.counted) at at_end.has)
+
+pub returns-in_err-seed-clause-fault : goal.returns-in_err-seed-clause-fault
+returns-in_err-seed-clause-fault g c =
+    let p = err_from_is_err_and c.from_residual-in_err-seed.result
+    c.from_residual-in_err-seed.ensures.1 in
+    let order = c.args.order.now in
+    let step = c.in_ok-circuit.ensures.made in
+    let s = step.1.met.0.said-raw.1.1.1.1 in
+    let w = step.2.1.said-raw.1.1 in
+    let files : AreEvalFiles (g.F.Files.bytes c.read.new.self) (string_bytes order.circuit)
+    (string_bytes order.garbled) (map string_bytes order.labels.items) c.in_ok-circuit.circuit
+    step.0.1 step.0.2.items = subst (λ r. IfOk r (λ made. AreEvalFiles (g.F.Files.bytes c.read.new.self) (string_bytes order.circuit)
+    (string_bytes order.garbled) (map string_bytes order.labels.items) made.0 made.1.1 made.1.2.items)) (sym s.1.0) s.0.ensures.1.0 in
+    let seed : IsSeed (string_bytes order.seed) step.0.0 = subst (λ r. IfOk r (λ made. IsSeed (string_bytes order.seed) made.1.0)) (sym s.1.0) s.0.ensures.0 in
+    let memory : c.in_err-seed.field-0.0 ≡ work.Memory = subst (λ r. IfErr r (λ fault. fault ≡ work.Memory)) (sym w.1 ∙ c.in_err-seed.was) w.0.ensures.1.1.1.1.1.1 in
+    rw (p.1, p.2) (
+      _,
+      (
+        _,
+        (_, (rw (fun_ext c.read.ensures.same) at files, seed.accepted, memory)),
+      ),
+    )
+
+pub returns-in-Ok-clause-answers : goal.returns-in-Ok-clause-answers
+returns-in-Ok-clause-answers g c =
+    let order = c.args.order.now in
+    let step = c.in_ok-circuit.ensures.made in
+    let s = step.1.met.0.said-raw.1.1.1.1 in
+    let w = step.2.1.said-raw.1.1 in
+    let files : AreEvalFiles (g.F.Files.bytes c.read.new.self) (string_bytes order.circuit)
+    (string_bytes order.garbled) (map string_bytes order.labels.items) c.in_ok-circuit.circuit
+    step.0.1 step.0.2.items = subst (λ r. IfOk r (λ made. AreEvalFiles (g.F.Files.bytes c.read.new.self) (string_bytes order.circuit)
+    (string_bytes order.garbled) (map string_bytes order.labels.items) made.0 made.1.1 made.1.2.items)) (sym s.1.0) s.0.ensures.1.0 in
+    let seed : IsSeed (string_bytes order.seed) step.0.0 = subst (λ r. IfOk r (λ made. IsSeed (string_bytes order.seed) made.1.0)) (sym s.1.0) s.0.ensures.0 in
+    let made = c.in_ok-seed.field-0 in
+    let file = step.0.1 in
+    let o = sym w.1 ∙ c.in_ok-seed.was in
+    let same : made.seed ≡ step.0.0 = subst (λ r. IfOk r (λ made. made.seed ≡ step.0.0)) o w.0.ensures.0 in
+    let of_version : made.version ≡ file.version = subst (λ r. IfOk r (λ made. made.version ≡ file.version)) o w.0.ensures.1.0 in
+    let names : made.named ≡ file.digest = subst (λ r. IfOk r (λ made. made.named ≡ file.digest)) o w.0.ensures.1.1.0 in
+    let ours : made.labels.items ≡ step.0.2.items = subst (λ r. IfOk r (λ made. made.labels.items ≡ step.0.2.items)) o w.0.ensures.1.1.1.0 in
+    let parts : MatchOption made.parts (¬ AreCountsRight step.2.0.now file)
+    (IsPartsAudit step.2.0.now (garbling_of step.2.0.now step.0.0) step.0.0 file) = subst (λ r. IfOk r (λ made. MatchOption made.parts (¬ AreCountsRight step.2.0.now file)
+    (IsPartsAudit step.2.0.now (garbling_of step.2.0.now step.0.0) step.0.0 file))) o w.0.ensures.1.1.1.1.1.0 in
+    record {
+      c = c.in_ok-circuit.circuit;
+      g = file;
+      files = step.0.2.items;
+      input = rw (fun_ext c.read.ensures.same) at files;
+      seed = step.0.0;
+      seed_read = seed;
+      printed = rw (c.deref.ensures.value, ours, same) at (c.in-Ok.ensures file (sym of_version)
+          (record {
+            digest = rw (names, c.in_ok-circuit.ensures.digest)
+                at c.garbled_audit-found.ensures.digest;
+            parts = rw (same, c.garbled_audit-found.ensures.parts, ← step.2.2) parts;
+          }));
+    }
+
+pub returns-in_err-seed-clause-same : goal.returns-in_err-seed-clause-same
+returns-in_err-seed-clause-same g c = λ n.
+    let step = c.in_ok-circuit.ensures.made.1 in
+    let s = step.met.0.said-raw.1.1.1.1 in
+    let now = c.files-1.given.1 (search (step.met.1, rules)) ∙ s.1.1 in
+    ap (λ f. g.F.Files.bytes f n) now ∙ s.0.ensures.1.1.1 n ∙ c.read.ensures.same n
+
+pub returns-in-Ok-clause-same : goal.returns-in-Ok-clause-same
+returns-in-Ok-clause-same g c = λ n.
+    let step = c.in_ok-circuit.ensures.made.1 in
+    let s = step.met.0.said-raw.1.1.1.1 in
+    let now = c.files-1.given.1 (search (step.met.1, rules)) ∙ s.1.1 in
+    ap (λ f. g.F.Files.bytes f n) now ∙ s.0.ensures.1.1.1 n ∙ c.read.ensures.same n
+
+pub returns-clause-same : goal.returns-clause-same
+returns-clause-same g c = λ n.
+    let step = c.in_ok-circuit.ensures.made.1 in
+    let s = step.met.0.said-raw.1.1.1.1 in
+    let now = c.files-1.given.1 (search (step.met.1, rules)) ∙ s.1.1 in
+    ap (λ f. g.F.Files.bytes f n) now ∙ s.0.ensures.1.1.1 n ∙ c.read.ensures.same n

@@ -1,0 +1,253 @@
+//! Tests of banks: what the calls of two seats that take turns return, and that none of them allocates.
+
+ghost use Rattle.std.specs.Prelude.{◌≡◌, ◌<◌, length, IfOk};
+ghost use Rattle.gc_bank.specs.Seats.{IsSeatOf, IsInside, view, round_of, jobs_on};
+
+use crate::boards::one_seat;
+use crate::fixtures::on_three_jobs;
+use gc_bank::{BankSeat, Banks, one_circuit};
+use gc_fixtures::compare::equal;
+use gc_fixtures::refusing::Refusing;
+use gc_job::Job;
+use gc_label::Label;
+use gc_rounds::{Entry, MAX_JOBS, Reopening};
+use gc_steps::Answer;
+use std::alloc::{Allocator, Global};
+use std::test::Fail;
+
+/// One call of a seat.
+#[derive(Clone, Copy, PartialEq, Eq, Debug)]
+enum Call {
+    Enter(u32),
+    Step(u32),
+    Label(u32),
+    Leave,
+    Seal,
+    Reopen(u32),
+}
+
+/// What a call returns.
+#[derive(Clone, Copy, PartialEq, Eq, Debug)]
+enum Reply {
+    Entry(Entry),
+    Answer(Answer),
+    Label(Option<Label>),
+    Nothing,
+    Reopening(Reopening),
+    /// The seat may not make the call where it is.
+    Barred,
+}
+
+/// Makes a call of a seat that is inside this round.
+fn called_inside<B: Allocator>(
+    banks: &Banks<'_, '_, B>,
+    jobs: &[Job],
+    seat: &mut BankSeat<B>,
+    round: u32,
+    call: Call,
+) -> Reply
+    requires own { IsSeatOf banks.now seat.old }
+    requires inside { IsInside (view seat.old) × (round_of (view seat.old) ≡ round) }
+    requires jobs { jobs_on banks.now ≡ jobs.now }
+    requires round { round < length jobs.now }
+    ensures { IsSeatOf banks.now seat.new }
+{
+    let circuit = jobs[round as usize].circuit();
+    match call {
+        Call::Step(gate) if gate < circuit.gates() => Reply::Answer(banks.step(seat, gate)),
+        Call::Label(wire) if wire < circuit.wires() => Reply::Label(banks.label(seat, wire)),
+        Call::Leave => {
+            banks.leave(seat);
+            Reply::Nothing
+        }
+        Call::Seal => {
+            banks.seal(seat);
+            Reply::Nothing
+        }
+        _ => Reply::Barred,
+    }
+}
+
+/// Makes a call of a seat.
+fn called<B: Allocator>(
+    banks: &Banks<'_, '_, B>,
+    jobs: &[Job],
+    seat: &mut BankSeat<B>,
+    call: Call,
+) -> Reply
+    requires own { IsSeatOf banks.now seat.old }
+    requires jobs { jobs_on banks.now ≡ jobs.now }
+    ensures { IsSeatOf banks.now seat.new }
+{
+    match (seat.inside(), call) {
+        (Some(round), _) if (round as usize) < jobs.len() => {
+            called_inside(banks, jobs, seat, round, call)
+        }
+        (None, Call::Enter(round)) if (round as usize) < jobs.len() => {
+            Reply::Entry(banks.enter(seat, round))
+        }
+        (None, Call::Reopen(round)) if (round as usize) + 2 < jobs.len() => {
+            Reply::Reopening(banks.reopen(seat, round))
+        }
+        _ => Reply::Barred,
+    }
+}
+
+/// Banks with two seats for these jobs.
+fn two_seats<'j, 'c, B: Allocator + Copy>(
+    alloc: B,
+    jobs: &'j [Job<'c>],
+) -> Result<(Banks<'j, 'c, B>, BankSeat<B>, BankSeat<B>), Fail>
+    ensures jobs { IfOk result (λ b. jobs_on b.0 ≡ jobs.now) }
+    ensures seats { IfOk result (λ b. IsSeatOf b.0 b.1 × IsSeatOf b.0 b.2) }
+{
+    if jobs.is_empty() || jobs.len() > MAX_JOBS || !one_circuit(jobs) {
+        return Err(Fail::new("the jobs are on one circuit"));
+    }
+    let (banks, mut seats) = Banks::open(alloc, jobs, 2)?;
+    let Some(two) = seats.pop() else {
+        return Err(Fail::new("there are two seats"));
+    };
+    let Some(one) = seats.pop() else {
+        return Err(Fail::new("there are two seats"));
+    };
+    Ok((banks, one, two))
+}
+
+/// The label that a board for the job alone makes of gate 0.
+fn first_gate(alloc: Global, job: &Job) -> Result<Label, Fail> {
+    let (board, mut seat) = one_seat(alloc, job)?;
+    if job.circuit().gates() == 0 {
+        return Err(Fail::new("there is a gate"));
+    }
+    let Answer::Made(label) = board.step(&mut seat, 0) else {
+        return Err(Fail::new("gate 0 is free"));
+    };
+    Ok(label)
+}
+
+/// Which of two seats makes a call.
+#[derive(Clone, Copy)]
+enum Who {
+    One,
+    Two,
+}
+
+/// The calls that two seats make in turn at banks for these three jobs, and the replies. A bank goes to its next round
+/// when its round is sealed and nobody is inside.
+fn script(alloc: Global, jobs: &[Job]) -> Result<[(Who, Call, Reply); 18], Fail>
+    requires { length jobs.now ≡ 3 }
+{
+    let early = first_gate(alloc, &jobs[0])?;
+    let late = first_gate(alloc, &jobs[2])?;
+    Ok([
+        (Who::One, Call::Enter(0), Reply::Entry(Entry::Inside)),
+        (Who::One, Call::Step(0), Reply::Answer(Answer::Made(early))),
+        (Who::One, Call::Step(0), Reply::Answer(Answer::Done(early))),
+        (Who::One, Call::Label(3), Reply::Label(Some(early))),
+        (Who::One, Call::Label(4), Reply::Label(None)),
+        (Who::Two, Call::Enter(2), Reply::Entry(Entry::OtherRound(0))),
+        (
+            Who::Two,
+            Call::Reopen(0),
+            Reply::Reopening(Reopening::NotSealed),
+        ),
+        (Who::One, Call::Seal, Reply::Nothing),
+        (Who::Two, Call::Enter(0), Reply::Entry(Entry::Shut)),
+        (Who::Two, Call::Reopen(0), Reply::Reopening(Reopening::Busy)),
+        (Who::One, Call::Leave, Reply::Nothing),
+        (
+            Who::Two,
+            Call::Reopen(0),
+            Reply::Reopening(Reopening::Given),
+        ),
+        (Who::One, Call::Enter(0), Reply::Entry(Entry::OtherRound(2))),
+        (Who::One, Call::Enter(2), Reply::Entry(Entry::Inside)),
+        (Who::One, Call::Step(0), Reply::Answer(Answer::Made(late))),
+        (Who::One, Call::Seal, Reply::Nothing),
+        (Who::One, Call::Leave, Reply::Nothing),
+        (
+            Who::Two,
+            Call::Reopen(0),
+            Reply::Reopening(Reopening::OtherRound(2)),
+        ),
+    ])
+}
+
+/// Makes the calls of a script. It returns the first call that has another reply than the script's, with the reply.
+fn first_other<B: Allocator>(
+    banks: &Banks<'_, '_, B>,
+    jobs: &[Job],
+    one: &mut BankSeat<B>,
+    two: &mut BankSeat<B>,
+    script: &[(Who, Call, Reply)],
+) -> Option<(Call, Reply)>
+    requires one { IsSeatOf banks.now one.old }
+    requires two { IsSeatOf banks.now two.old }
+    requires jobs { jobs_on banks.now ≡ jobs.now }
+    ensures { IsSeatOf banks.now one.new × IsSeatOf banks.now two.new }
+{
+    for (who, call, wanted) in script {
+        let found = match who {
+            Who::One => called(banks, jobs, one, *call),
+            Who::Two => called(banks, jobs, two, *call),
+        };
+        if found != *wanted {
+            return Some((*call, found));
+        }
+    }
+    None
+}
+
+/// The replies are those of the script.
+fn take_turns(alloc: Global, jobs: &[Job]) -> Result<(), Fail> {
+    if jobs.len() != 3 {
+        return Err(Fail::new("there are three jobs"));
+    }
+    let script = script(alloc, jobs)?;
+    let (banks, mut one, mut two) = two_seats(alloc, jobs)?;
+    equal(first_other(&banks, jobs, &mut one, &mut two, &script), None)
+}
+
+#[test]
+fn two_seats_take_turns(rt: HostRuntime) -> Result<(), Fail> {
+    on_three_jobs(rt.alloc(), |jobs| take_turns(rt.alloc(), jobs))
+}
+
+/// Opens banks over this memory, has two seats make the calls of a script, and closes them. It returns how
+/// many gates were made, where no memory was asked for after the opening.
+fn works_without_memory(
+    heap: &Refusing<Global>,
+    jobs: &[Job],
+    script: &[(Who, Call, Reply)],
+) -> Result<u64, Fail> {
+    let mut seats = Vec::with_capacity(heap, 2)?;
+    let (banks, mut one, mut two) = two_seats(heap, jobs)?;
+    let opened = heap.growths();
+    first_other(&banks, jobs, &mut one, &mut two, script);
+    if one.inside().is_some() || two.inside().is_some() {
+        return Err(Fail::new("both seats are outside"));
+    }
+    seats.push(one)?;
+    seats.push(two)?;
+    let Ok(made) = banks.close(seats) else {
+        return Err(Fail::new("both seats are there"));
+    };
+    if !one_circuit(jobs) || heap.growths() != opened {
+        return Err(Fail::new("a growth was asked for"));
+    }
+    Ok(made)
+}
+
+/// Banks that are open ask for no memory, and neither does the question whether their jobs are on one circuit.
+#[test]
+fn opened_banks_grow_nothing(rt: HostRuntime) -> Result<(), Fail> {
+    on_three_jobs(rt.alloc(), |jobs| {
+        if jobs.len() != 3 {
+            return Err(Fail::new("there are three jobs"));
+        }
+        let script = script(rt.alloc(), jobs)?;
+        let made = works_without_memory(&Refusing::never(rt.alloc()), jobs, &script)?;
+        equal(made, 2)
+    })
+}

@@ -1,0 +1,2 @@
+pub mod MemFiles
+pub mod Refusals

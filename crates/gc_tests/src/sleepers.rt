@@ -1,0 +1,213 @@
+//! Tests of threads that sleep at a shared store, since no gate is ready and one is claimed: whom a hand-in and a stop
+//! wake, and what those who are woken find.
+
+ghost use Rattle.gc_store.specs.Account.{IsForStore};
+
+use crate::fixtures::{ledger, read};
+use gc_circuit::Circuit;
+use gc_fixtures::compare::equal;
+use gc_fixtures::files::zero_seed;
+use gc_fixtures::waiting::{pause, reaches};
+use gc_store::{BATCH_SIZE, Batch, Sealed, SharedStore, Store, Tally, Task};
+use std::alloc::Global;
+use std::marker::Brand;
+use std::sync::Wait;
+use std::sync::atomic::{AtomicBool, AtomicU64, Ordering};
+use std::sync::ledger::{Blank, Ledger};
+use std::test::Fail;
+use std::thread;
+use std::thread::Threads;
+
+/// How many threads sleep.
+const SLEEPERS: usize = 3;
+
+/// The circuit of a gate, and this many gates that read the wire that it sets.
+fn fan(alloc: Global, readers: u32) -> Result<Circuit, Fail> {
+    let n = u64::from(readers);
+    let mut text = format!(in alloc; "{} {}\n1 1\n1 1\n1 1 0 1 INV\n", n + 1, n + 2)?;
+    for reader in 0..n {
+        text.push_str(format!(in alloc; "2 1 1 0 {} AND\n", reader + 2)?.as_str())?;
+    }
+    read(alloc, text.as_str())
+}
+
+/// What a thread that slept is given.
+#[derive(Clone, Copy, PartialEq, Eq, Debug)]
+enum Given {
+    /// A task, which it hands in.
+    Task,
+    /// No task, after all gates.
+    NoneAtLast,
+    /// No task, though gates are left.
+    NoneBefore,
+}
+
+/// The store of a fan, whose first gate is claimed, and what its threads tell each other.
+#[derive(Drop)]
+struct Fixture<L: Ledger> {
+    shared: SharedStore<L>,
+    first: Task,
+    // How many threads are about to ask for a task.
+    asking: AtomicU64,
+    // How many were given one.
+    given: AtomicU64,
+    // Whether the last gate is about to be handed in.
+    is_last: AtomicBool,
+}
+
+impl<L: Ledger> Fixture<L> {
+    /// Nobody has come yet.
+    fn new(store: Store<L>, first: Task) -> Fixture<L> {
+        Fixture {
+            shared: SharedStore::new(store),
+            first,
+            asking: AtomicU64::new(0),
+            given: AtomicU64::new(0),
+            is_last: AtomicBool::new(false),
+        }
+    }
+
+    /// Asks for a task, and hands in what is given.
+    fn ask(&self, rt: &impl Wait, tally: &mut Tally<L>) -> Given {
+        self.asking.fetch_add(1, Ordering::SeqCst);
+        match self.shared.take(rt) {
+            Some(task) => {
+                self.given.fetch_add(1, Ordering::SeqCst);
+                let _ = self.hand_in(rt, task, tally, &mut Batch::new());
+                Given::Task
+            }
+            None if self.is_last.load(Ordering::SeqCst) => Given::NoneAtLast,
+            None => Given::NoneBefore,
+        }
+    }
+
+    /// Hands in a task. Returns whether the store is complete then; None where it refuses.
+    fn hand_in(
+        &self,
+        rt: &impl Wait,
+        task: Task,
+        tally: &mut Tally<L>,
+        batch: &mut Batch,
+    ) -> Option<bool> {
+        self.shared
+            .hand_in(rt, Sealed::make(task), tally, batch)
+            .ok()
+    }
+
+    /// Hands in the first gate, which makes more gates ready than the batch holds. Returns whether each thread that
+    /// slept is given a task.
+    fn wakes_each(&self, rt: &impl Wait, tally: &mut Tally<L>) -> bool {
+        self.hand_in(rt, self.first, tally, &mut Batch::new()) == Some(false)
+            && reaches(&self.given, SLEEPERS as u64)
+    }
+
+    /// Hands in the first gate, after which the batch has all others: a thread is woken, and finds no gate that is
+    /// ready. Then the others are handed in. Returns whether the last one completes the store.
+    fn leaves_none(&self, rt: &impl Wait, tally: &mut Tally<L>) -> bool {
+        let mut batch = Batch::new();
+        let mut answer = self.hand_in(rt, self.first, tally, &mut batch);
+        pause();
+        for _gate in 0..BATCH_SIZE {
+            let Some(task) = batch.pop() else {
+                return false;
+            };
+            self.is_last.store(batch.is_empty(), Ordering::SeqCst);
+            answer = self.hand_in(rt, task, tally, &mut batch);
+        }
+        answer == Some(true)
+    }
+
+    /// What the thread that works does once the others sleep, by what they should be given. It stops the store if they
+    /// should be given nothing before the last gate, or if something goes wrong. Returns whether nothing did.
+    fn work(&self, rt: &impl Wait, tally: &mut Tally<L>, given: Given) -> bool {
+        let all_ask = reaches(&self.asking, SLEEPERS as u64);
+        pause();
+        let works = match given {
+            Given::Task => self.wakes_each(rt, tally),
+            Given::NoneAtLast => self.leaves_none(rt, tally),
+            Given::NoneBefore => true,
+        };
+        if given == Given::NoneBefore || !(all_ask && works) {
+            self.shared.stop(rt);
+        }
+        all_ask && works
+    }
+}
+
+/// A thread at a store: its tally, and whether it is given what it should be.
+#[derive(Drop)]
+struct Participant<L: Ledger> {
+    tally: Tally<L>,
+    is_right: bool,
+}
+
+/// The thread that works and those that sleep, each with a tally of the store.
+fn threads_of<L: Ledger>(alloc: Global, store: &mut Store<L>) -> Option<Vec<Participant<L>>> {
+    let mut threads = Vec::new(alloc);
+    for _thread in 0..SLEEPERS + 1 {
+        let tally = store.tally()?;
+        let is_right = false;
+        threads.push(Participant { tally, is_right }).ok()?;
+    }
+    Some(threads)
+}
+
+/// A store of this circuit whose first gate is claimed, and its threads.
+fn open<L: Ledger>(
+    alloc: Global,
+    ledger: Blank,
+    circuit: Circuit,
+) -> Option<(Fixture<L>, Vec<Participant<L>>)>
+    requires { IsForStore L.name L.parts ledger }
+{
+    let mut store = Store::<L, Global>::open(alloc, ledger, circuit, zero_seed()).ok()?;
+    let first = store.claim()?;
+    let threads = threads_of(alloc, &mut store)?;
+    Some((Fixture::new(store, first), threads))
+}
+
+/// Three threads sleep at the store of a fan of this many readers, while another thread works there. Returns whether
+/// nothing goes wrong, and each of the three is given this.
+fn are_given<L: Ledger + Send + Sync, R: Threads + Wait + Sync>(
+    rt: &R,
+    alloc: Global,
+    ledger: Blank,
+    readers: u32,
+    given: Given,
+) -> Result<bool, Fail>
+    requires { IsForStore L.name L.parts ledger }
+{
+    let opened = open::<L>(alloc, ledger, fan(alloc, readers)?);
+    let (fixture, mut threads) = opened.ok_or("a gate is ready")?;
+    thread::for_each_mut(
+        rt,
+        threads.as_mut_slice(),
+        SLEEPERS + 1,
+        &|i: usize, thread: &mut Participant<L>| {
+            thread.is_right = if i == 0 {
+                fixture.work(rt, &mut thread.tally, given)
+            } else {
+                fixture.ask(rt, &mut thread.tally) == given
+            };
+        },
+    );
+    Ok(threads.iter().all(|thread| thread.is_right))
+}
+
+/// One hand-in that makes more gates ready than a batch holds wakes one of three threads that sleep, and what that one
+/// hands in wakes the next, until all are woken. A thread that is woken and finds no gate that is ready sleeps on: it
+/// is given none before the last gate, which wakes all. A stop wakes all.
+#[test]
+fn each_sleeper_is_woken(rt: HostRuntime) -> Result<(), Fail> {
+    for (readers, given) in [
+        (64, Given::Task),
+        (16, Given::NoneAtLast),
+        (16, Given::NoneBefore),
+    ] {
+        for _time in 0..10 {
+            let found = are_given::<Brand, HostRuntime>(&rt, rt.alloc(), ledger(), readers, given)?;
+            equal((given, found), (given, true))?;
+        }
+    }
+    Ok(())
+}

@@ -1,0 +1,84 @@
+//! Tests of garbling on many threads: the threads are really at work, and memory may run out on each of them.
+
+use crate::fixtures::{Shape, circuit_of, garbles};
+use gc_fixtures::counting::Counting;
+use gc_fixtures::files::zero_seed;
+use gc_fixtures::growths::{answer_of, refusals_met};
+use gc_fixtures::meeting::Meeting;
+use gc_work::{WorkFault, garble};
+use gc_workers::Open;
+use std::sync::Wait;
+use std::test::Fail;
+use std::thread::Threads;
+
+/// The workers 0 and 1 make 2,000 gates, each gate once: independent ones go by layers, and forty chains, whose layers
+/// are of one gate, through a store.
+#[test]
+fn two_workers_meet(rt: HostRuntime) -> Result<(), Fail> {
+    for shape in [Shape::Ands(2000), Shape::Chains(40, 50)] {
+        let observer = Meeting::new();
+        assert!(rt; garbles(&rt, shape, 2, &observer)?);
+        assert!(rt; observer.has_met() && observer.are_below(2) && observer.calls() == 2000);
+    }
+    Ok(())
+}
+
+/// Each by the number of the worker that makes it: on one thread, by layers with gates of each operation, and through a
+/// store.
+#[test]
+fn each_gate_is_reported_once(rt: HostRuntime) -> Result<(), Fail> {
+    for (shape, gates) in [
+        (Shape::Adder, 5),
+        (Shape::Mixed(1100), 9900),
+        (Shape::Chains(64, 32), 2048),
+    ] {
+        for workers in [1, 2, 64] {
+            let observer = Counting::new(rt.alloc(), gates)?;
+            assert!(rt; garbles(&rt, shape, workers, &observer)?);
+            assert!(rt; observer.is_each_reported(1, 1) && observer.are_below(workers));
+        }
+    }
+    Ok(())
+}
+
+/// In how many runs a refusal meets this many workers, whichever threads it meets.
+fn refused<R: AllocGlobal + Threads + Wait + Sync>(
+    rt: &R,
+    shape: Shape,
+    workers: u32,
+) -> Result<u64, Fail> {
+    let circuit = circuit_of(rt.alloc(), shape)?;
+    let met = refusals_met(rt.alloc(), |heap| {
+        answer_of(
+            garble(rt, heap, &circuit, &zero_seed(), workers, &Open),
+            WorkFault::Memory,
+        )
+    })?;
+    Ok(met.runs)
+}
+
+#[test]
+fn each_growth_of_few_workers_refused(rt: HostRuntime) -> Result<(), Fail> {
+    for (shape, workers, fewest) in [
+        (Shape::Chains(40, 50), 2, 16),
+        (Shape::Ands(2000), 2, 8),
+        (Shape::Ands(16), 1, 1),
+        (Shape::Empty, 2, 0),
+    ] {
+        assert!(rt; refused(&rt, shape, workers)? > fewest);
+    }
+    Ok(())
+}
+
+/// Chains go through a store, and independent AND gates by layers; where they are 4,100, four threads help.
+#[test]
+fn each_growth_of_64_workers_refused(rt: HostRuntime) -> Result<(), Fail> {
+    for (shape, fewest) in [
+        (Shape::Chains(64, 16), 128),
+        (Shape::Ands(2000), 8),
+        (Shape::Ands(4100), 8),
+    ] {
+        assert!(rt; refused(&rt, shape, 64)? > fewest);
+    }
+    Ok(())
+}

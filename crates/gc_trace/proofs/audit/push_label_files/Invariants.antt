@@ -1,8 +1,0 @@
-use Rattle.std.proofs.Common.{◌≡◌, ℕ, ◌++◌, List, take}
-use Rattle.gc_trace.specs.Audit.{AreLabelsFound}
-use Rattle.gc_trace.proofs.audit.push_label_files.Given as goal
-
-abbrev pub invariant-loop-file : goal.invariant-loop-file
-invariant-loop-file g l = (added : List ℕ)
-    × AreLabelsFound l.circuit l.seed (take l.file-index l.files) l.all_dealt added
-    × (l.lines.items ≡ l.fn.lines.items ++ added)

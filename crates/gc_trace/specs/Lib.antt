@@ -1,4 +1,0 @@
-pub mod Labels
-pub mod Stats
-pub mod Audit
-pub mod Locate

@@ -1,4 +1,0 @@
-use Rattle.gc_work_tests.proofs.growth.opens_anew.Given as goal
-
-abbrev pub ghosts-opens : goal.ghosts-opens
-ghosts-opens a = record { name = a.ledger.name; parts = a.ledger.parts }
