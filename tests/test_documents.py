@@ -6,14 +6,13 @@ import re
 import subprocess
 import sys
 import unittest
-from pathlib import Path
 
 from program import TOP
 
 DOCUMENTS = [TOP / f"{name}.md" for name in ("README", "CONTRIBUTING", "SECURITY", "CHANGELOG")]
 DOCUMENTS += [*sorted(TOP.glob("docs/*.md")), TOP / "examples/README.md", TOP / "vectors/README.md"]
 
-# A short page for each crate.
+# A page of one paragraph for each crate.
 PAGES = sorted(TOP.glob("crates/*/README.md"))
 DOCUMENTS += PAGES
 
@@ -80,12 +79,7 @@ def is_there(path, document, crates):
 
 
 # The crates of tests, by the first part of the names of their tests, if these have one.
-TESTS = {
-    "cli": ["gc_cli_tests"],
-    "bank": ["gc_bank_tests"],
-    "refusing": ["gc_refusing"],
-    "": ["gc_tests", "gc_work_tests", "gc_eval_tests"],
-}
+TESTS = {"cli": ["gc_cli_tests"], "": ["gc_tests", "gc_eval_tests"]}
 
 
 def is_test(name):
@@ -96,7 +90,7 @@ def is_test(name):
         path = TOP / f"tests/test_{file}.py"
         return path.exists() and f"def test_{test}" in path.read_text()
     crates, rest = (TESTS[first], rest) if first in TESTS else (TESTS[""], name)
-    file, _, test = rest.partition("::") if first != "refusing" else ("tests", "", rest)
+    file, _, test = rest.partition("::")
     texts = [p.read_text() for it in crates for p in (TOP / "crates" / it / "src").glob(f"{file}.rt")]
     if first not in TESTS and not texts:
         return None
@@ -170,30 +164,26 @@ class Documents(unittest.TestCase):
     def test_names_of_tests(self):
         missing = []
         for number, line in numbered_lines(TOP / "docs/PROMISES.md"):
-            for name in re.findall(r"`((?:tests|cli|bank)::[\w:]+|\w+::\w+)`", line):
+            for name in re.findall(r"`((?:tests|cli)::[\w:]+|\w+::\w+)`", line):
                 if not name.endswith("::name") and is_test(name) is False:
                     missing.append(f"{number} {name}")
         self.assertEqual(missing, [])
 
     def test_edits(self):
-        """Each wrong body of the crates is named in the promises, and no other. So is each of a
-        crate on its page.
-        """
+        """Each wrong body of the crates is named in the promises, and no other."""
         edits = {it.stem for it in TOP.glob("crates/*/must-fail/*.edit")}
         self.assertEqual(edits_of(TOP / "docs/PROMISES.md"), edits)
-        for page in PAGES:
-            named = edits_of(page)
-            self.assertLessEqual(named, edits, page)
-            missing = {it.stem for it in page.parent.glob("must-fail/*.edit")} - named
-            self.assertEqual(missing, set(), page)
 
     def test_each_crate_has_a_page(self):
+        """It is the crate's name, an empty line and one paragraph."""
         self.assertEqual({it.parent.name for it in PAGES}, CRATES)
         for page in PAGES:
-            self.assertLessEqual(len(page.read_text().splitlines()), 30, page)
+            head, empty, *paragraph = page.read_text().splitlines()
+            self.assertEqual((head, empty), (f"# {page.parent.name}", ""), page)
+            self.assertTrue(paragraph and all(re.match("[^|#-]", it) for it in paragraph), page)
 
     def test_definitions(self):
-        """What definitions, promises and the crates' pages name stands in specs or in sources."""
+        """What definitions, promises and the crates' pages name is in specs or in sources."""
         files = [*TOP.glob("crates/*/specs/**/*.antt"), *TOP.glob("crates/*/src/*.rt")]
         known = CRATES.union(*[re.findall(r"\w+", it.read_text()) for it in files])
         missing = []
@@ -205,19 +195,15 @@ class Documents(unittest.TestCase):
         self.assertEqual(missing, [])
 
     def test_clauses(self):
-        """Each clause that the promises name stands in a contract, and each that a crate's page
-        names in one of that crate.
-        """
+        """Each clause that the promises name is in a contract."""
+        sources = "".join(it.read_text() for it in TOP.glob("crates/*/src/*.rt"))
+        known = NO_CLAUSES.union(re.findall(r"\b(?:ensures|fn) (\w+)", sources))
         missing, found = [], 0
-        for document in (TOP / "docs/PROMISES.md", *PAGES):
-            folder = document.parent if document in PAGES else TOP / "crates/*"
-            sources = "".join(Path(it).read_text() for it in glob.glob(f"{folder}/src/*.rt"))
-            known = NO_CLAUSES.union(re.findall(r"\b(?:ensures|fn) (\w+)", sources))
-            for number, _, clause in rows(document, "Clause"):
-                found += 1
-                missing += [f"{place(document, number)} {it}" for it in unknown_names(clause, known)]
+        for number, _, clause in rows(TOP / "docs/PROMISES.md", "Clause"):
+            found += 1
+            missing += [f"PROMISES.md:{number} {it}" for it in unknown_names(clause, known)]
         self.assertEqual(missing, [])
-        self.assertGreater(found, 200)
+        self.assertGreater(found, 70)
 
     def test_faults(self):
         """The faults of the vectors stand in the table of faults, under their codes."""
