@@ -11,8 +11,9 @@ use Rattle.gc_netlist.specs.Circuit.{Netlist, EachRead, IsSet, IsSetBefore, IsLa
 use Rattle.gc_netlist.specs.Solution.{IsLocal, Solves, values_after}
 use Rattle.gc_netlist.proofs.SolutionLemmas.{IsSetBefore-more, solution_solves}
 use Rattle.gc_netlist.proofs.Tables.{IsSetBefore-below, after-zero, read-table}
+use Rattle.gc_depth.specs.Depth.{and_depth_of}
 use Rattle.gc_audit.specs.declared.depths.Depths.{Depths}
-use Rattle.gc_audit.specs.Stats.{IsGreatest, depth_of, and_depth_of}
+use Rattle.gc_audit.specs.Stats.{IsGreatest, depth_of}
 use Rattle.gc_audit.specs.Depths.{none_deep, depths_in, depths_of, depths_rule}
 
 depths_of_local : (u v : ℕ → Depths) (op : Operation) → EachRead (λ w. u w ≡ v w) op

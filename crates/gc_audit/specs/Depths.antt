@@ -2,8 +2,9 @@
 use Rattle.std.specs.Prelude.{◌<◌, ℕ, List, slice_index_or}
 use Rattle.gc_netlist.specs.declared.gate.Operation.{Operation}
 use Rattle.gc_netlist.specs.declared.gate.Gate.{Gate}
+use Rattle.gc_depth.specs.Depth.{and_depth_of}
 use Rattle.gc_audit.specs.declared.depths.Depths.{Depths}
-use Rattle.gc_audit.specs.Stats.{depth_of, and_depth_of}
+use Rattle.gc_audit.specs.Stats.{depth_of}
 
 -- Those of an input wire.
 abbrev pub none_deep : Depths

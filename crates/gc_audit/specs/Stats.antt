@@ -6,6 +6,7 @@ use Rattle.gc_netlist.specs.declared.gate.Operation.TheVariants.{Xor, And, Inv, 
 use Rattle.gc_netlist.specs.declared.gate.Gate.{Gate}
 use Rattle.gc_netlist.specs.Circuit.{Netlist, IsSet, and_count, output_wires, reads}
 use Rattle.gc_netlist.specs.Solution.{Solves}
+use Rattle.gc_depth.specs.Depth.{and_depth_rule}
 use Rattle.gc_file.specs.declared.parts.Version.TheVariants.{One, Two}
 use Rattle.gc_file.specs.Honest.{IsFileSize}
 use Rattle.gc_audit.specs.declared.figures.Stats.{Stats}
@@ -43,19 +44,8 @@ depth_of depth (Inv a) = depth a + 1
 depth_of depth (Eq v) = 1
 depth_of depth (Eqw a) = depth a + 1
 
--- Its AND depth: the same, where AND alone adds one.
-abbrev pub and_depth_of : (ℕ → ℕ) → Operation → ℕ
-and_depth_of depth (Xor a b) = max (depth a) (depth b)
-and_depth_of depth (And a b) = max (depth a) (depth b) + 1
-and_depth_of depth (Inv a) = depth a
-and_depth_of depth (Eq v) = 0
-and_depth_of depth (Eqw a) = depth a
-
 abbrev pub depth_rule : (ℕ → ℕ) → ℕ → Gate → ℕ
 depth_rule depth i g = depth_of depth g.operation
-
-abbrev pub and_depth_rule : (ℕ → ℕ) → ℕ → Gate → ℕ
-and_depth_rule depth i g = and_depth_of depth g.operation
 
 -- The depths on the wires are 0 on input wires and meet the rule at each gate, and the number is the greatest on a wire
 -- that is set, 0 where no wire is set.

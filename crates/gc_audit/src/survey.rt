@@ -4,7 +4,8 @@ ghost use Rattle.std.specs.Prelude.{◌≡◌, ◌<◌, ◌||◌, ℕ, false, If
 ghost use Rattle.std.specs.List.{range_with_len};
 ghost use Rattle.gc_netlist.specs.Circuit.{EachRead, reads};
 ghost use Rattle.gc_audit.specs.Counts.{AreCounts};
-ghost use Rattle.gc_audit.specs.Stats.{IsGreatest, IsStats, depth_rule, and_depth_rule, is_read, is_unread};
+ghost use Rattle.gc_depth.specs.Depth.{and_depth_rule};
+ghost use Rattle.gc_audit.specs.Stats.{IsGreatest, IsStats, depth_rule, is_read, is_unread};
 
 use crate::counts::Counts;
 use crate::depths::Depths;

@@ -1,5 +1,6 @@
 ghost use Rattle.std.specs.Prelude.{◌≡◌, ◌<◌, ◌↔◌, length, slice_get, Some, IsTrue, IfOk};
 ghost use Rattle.gc_netlist.specs.Circuit.{netlist_of, is_and, and_count, input_wires, output_wires, IsLawful, IsSummary};
+ghost use Rattle.gc_circuit.specs.Gates.{with_gates};
 
 use crate::memory::Memory;
 use crate::read::Widths;
@@ -147,6 +148,28 @@ impl<A: Allocator> Circuit<A> {
         let inputs = same_widths(&self.input_widths, &other.input_widths);
         let outputs = same_widths(&self.output_widths, &other.output_widths);
         wires && inputs && outputs && same_gates(&self.gates, &other.gates)
+    }
+
+    /// The circuit of these gates, with the wires and the widths of this one. The caller ensures that it is lawful and
+    /// that it has as many AND gates.
+    pub fn with_gates<B: Allocator + Copy>(
+        &self,
+        alloc: B,
+        gates: Vec<Gate, B>,
+    ) -> Result<Circuit<B>, Memory>
+        requires lawful { IsLawful (with_gates self.now gates.items) }
+        requires ands { and_count (with_gates self.now gates.items) ≡ and_count self.now }
+        ensures { IfOk result (λ c. c ≡ with_gates self.now gates.items) }
+    {
+        Ok(Circuit {
+            wires: self.wires,
+            input_wires: self.input_wires,
+            output_wires: self.output_wires,
+            and_count: self.and_count,
+            input_widths: Vec::from_slice(alloc, &self.input_widths)?,
+            output_widths: Vec::from_slice(alloc, &self.output_widths)?,
+            gates,
+        })
     }
 
     /// An equal circuit in memory of its own.

@@ -4,7 +4,8 @@ use Rattle.gc_netlist.specs.Circuit.{reads, is_and}
 use Rattle.gc_netlist.proofs.SolutionLemmas.{EachRead-map}
 use Rattle.gc_netlist.proofs.Tables.{table_step, length-table, EachRead-below}
 use Rattle.gc_audit.specs.declared.depths.Depths.{Depths}
-use Rattle.gc_audit.specs.Stats.{is_xor, is_inv, is_eq, is_eqw, depth_rule, and_depth_rule}
+use Rattle.gc_depth.specs.Depth.{and_depth_rule}
+use Rattle.gc_audit.specs.Stats.{is_xor, is_inv, is_eq, is_eqw, depth_rule}
 use Rattle.gc_audit.specs.Depths.{none_deep, depths_in, depths_rule}
 use Rattle.gc_audit.proofs.CountLemmas.{count_more}
 use Rattle.gc_audit.proofs.DepthLemmas.{table_start, deepest_start, deepest_more, deepest_all, depths_local, depth_of-le}

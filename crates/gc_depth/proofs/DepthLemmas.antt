@@ -1,0 +1,191 @@
+-- Gates in order of depth read only wires that are set before them.
+use Rattle.std.proofs.Common.{◌≡◌, ℕ, zero, suc, ◌+◌, ◌*◌, ◌<◌, ◌≤◌, ◌==◌, ◌++◌, ◌⊎◌, inl, inr, List, [], ◌∷◌, length, get_or, take, slice_get, Some, Bool, true, false, not, cond, refl, ap, ◌∙◌, arith, append_assoc, add-one}
+use Rattle.std.specs.Int.{from_bool}
+use Rattle.std.specs.List.{AllByRecursion, Contains}
+use Rattle.std.specs.List.Sorted.{IsPermutation}
+use Rattle.std.proofs.lemmas.Bool.{cases_lt, cases_eq}
+use Rattle.std.proofs.lemmas.Bool.Decides.{nat_tests}
+use Rattle.std.proofs.lemmas.Grind.{common_steps}
+use Rattle.std.proofs.lemmas.Option.{gets, slice_get_within, slice_get-get_or}
+use Rattle.std.proofs.lemmas.List.{append-nil, take-append-le, take_all, length-append, length-take}
+use Rattle.std.proofs.Math.Seq.{take-length}
+use Rattle.std.proofs.lemmas.List.Elements.{Contains-append_left, Contains-append_right, filter_more}
+use Rattle.gc_netlist.specs.declared.gate.Gate.{Gate}
+use Rattle.gc_netlist.specs.declared.gate.Operation.{Operation}
+use Rattle.gc_netlist.specs.Circuit.{Netlist, is_and, input_wires, EachRead, IsSetBefore, IsLawful}
+use Rattle.gc_netlist.specs.Solution.{IsLocal}
+use Rattle.gc_netlist.proofs.SolutionLemmas.{EachRead-map, solution_solves}
+use Rattle.gc_circuit.specs.Gates.{with_gates}
+use Rattle.gc_depth.specs.Depth.{and_depth_of, and_depth_rule, AreAndDepths, and_depths, rank_of, rank_in, IsByDepth}
+use Rattle.gc_depth.specs.Order.{IsReordering}
+use Rattle.gc_depth.specs.Ranks.{of_rank, by_rank}
+use Rattle.gc_depth.proofs.RankLemmas.{permuted, nondecreasing}
+use Rattle.gc_depth.proofs.ReorderLemmas.{contains_at, at_contains, contains_filter, none, reordered_lawful, solves_too}
+
+depth_of_local : (u v : ℕ → ℕ) (op : Operation) → EachRead (λ w. u w ≡ v w) op →
+    and_depth_of u op ≡ and_depth_of v op
+depth_of_local u v op h = grind arith
+
+pub depth_local : IsLocal and_depth_rule
+depth_local u v i g h = depth_of_local u v g.operation h
+
+pub depths_are : (c : Netlist) → IsLawful c → AreAndDepths c (and_depths c)
+depths_are c lawful = solution_solves and_depth_rule depth_local c lawful (λ _. 0)
+
+pub from_bool-le : (b : Bool) → from_bool b ≤ 1
+from_bool-le true = omega arith
+from_bool-le false = omega arith
+
+-- what is so of each wire, under two facts
+EachRead-both : (P Q R : ℕ → Type 0) (op : Operation) → ((w : ℕ) → P w → Q w → R w) →
+    EachRead P op → EachRead Q op → EachRead R op
+EachRead-both P Q R op f h k = grind arith
+
+-- The gate that sets a wire has at most the rank of one that reads it.
+rank_read : (depth : ℕ → ℕ) (op : Operation) →
+    EachRead (λ w. 2 * depth w + 1 ≤ rank_of depth op) op
+rank_read depth op = grind arith
+
+module _ (c : Netlist) (lawful : IsLawful c) where
+  abbrev r : Gate → ℕ
+  r = rank_in c
+
+  rank_of_setter : (j : ℕ) (g : Gate) (w n : ℕ) → slice_get c.gates j ≡ Some g → g.set ≡ w →
+      2 * and_depths c w + 1 ≤ n → r g ≤ n
+  rank_of_setter j g w n at sets low =
+      let e = (depths_are c lawful).gates j g at in
+      let f = ap (and_depths c) sets in
+      let few : from_bool (not (is_and g.operation)) ≤ 1 = from_bool-le (not (is_and g.operation)) in
+      omega (arith, e, f, low, few)
+
+  -- The wire is an input wire, or one of these gates sets it.
+  abbrev IsSetIn : List Gate → ℕ → Type 0
+  IsSetIn gates w = (w < input_wires c) ⊎ ((g : Gate) × Contains gates g × (g.set ≡ w))
+
+  abbrev ReadsBefore : List Gate → Type 0
+  ReadsBefore gates = (p : ℕ) (h : Gate) → slice_get gates p ≡ Some h →
+      EachRead (IsSetIn (take p gates)) h.operation
+
+  last_is : (gates : List Gate) (h g : Gate) → slice_get (gates ++ h ∷ []) (length gates) ≡ Some g →
+      h ≡ g
+  last_is gates h g at = grind (arith, common_steps, gets)
+
+  reads_more : (gates : List Gate) (h : Gate) → ReadsBefore gates →
+      EachRead (IsSetIn gates) h.operation → ReadsBefore (gates ++ h ∷ [])
+  reads_more gates h before reads p g at = elim (cases_lt p (length gates)) [
+    | inl first ↦
+        let there : slice_get gates p ≡ Some g = grind (arith, common_steps, gets) in
+        rw (take-append-le p gates (h ∷ []) (omega arith)) (before p g there)
+    | inr last ↦
+        let within = slice_get_within (gates ++ h ∷ []) p g at in
+        let here : p ≡ length gates = omega (arith, within, length-append gates (h ∷ [])) in
+        let same : h ≡ g = last_is gates h g (rw here at at) in
+        let front : take p (gates ++ h ∷ []) ≡ gates =
+        take-append-le p gates (h ∷ []) (omega arith) ∙ take_all p gates last in
+        rw (front, ← same) reads
+  ]
+
+  contains_by_rank : (n : ℕ) (g : Gate) → r g < n → Contains c.gates g →
+      Contains (by_rank r n c.gates) g
+  contains_by_rank zero g below h = absurd (omega arith)
+  contains_by_rank (suc n) g below h = elim (cases_lt (r g) n) [
+    | inl low ↦ Contains-append_left (by_rank r n c.gates) (of_rank r n c.gates) g
+        (contains_by_rank n g low h)
+    | inr high ↦
+        let e : (r g == n) ≡ true = grind (arith, nat_tests) in
+        Contains-append_right (by_rank r n c.gates) (of_rank r n c.gates) g
+        (contains_filter (λ x. r x == n) c.gates g e h)
+  ]
+
+  -- A wire that a gate reads is among those that gates of lower ranks set, and gates of its rank before it.
+  set_in : (k i : ℕ) (h : Gate) → slice_get c.gates i ≡ Some h → r h ≡ k → (w : ℕ) →
+      IsSetBefore c i w → 2 * and_depths c w + 1 ≤ r h →
+      IsSetIn (by_rank r k c.gates ++ of_rank r k (take i c.gates)) w
+  set_in k i h at is w (inl input) low = inl input
+  set_in k i h at is w (inr (j, below, by)) low =
+      let g = by.gate in
+      let up : r g ≤ k = omega (arith, is, rank_of_setter j g w (r h) by.at by.wire low) in
+      let inside : Contains (by_rank r k c.gates ++ of_rank r k (take i c.gates)) g =
+      elim (cases_lt (r g) k) [
+        | inl lower ↦ Contains-append_left (by_rank r k c.gates) (of_rank r k (take i c.gates)) g
+            (contains_by_rank k g lower (contains_at c.gates j g by.at))
+        | inr level ↦
+            let e : (r g == k) ≡ true = grind (arith, nat_tests) in
+            let t : slice_get (take i c.gates) j ≡ Some g =
+            grind (arith, common_steps, gets, by.at) in
+            Contains-append_right (by_rank r k c.gates) (of_rank r k (take i c.gates)) g
+            (contains_filter (λ x. r x == k) (take i c.gates) g e (contains_at (take i c.gates) j g t))
+      ] in
+      inr (g, inside, by.wire)
+
+  level_reads : (k i : ℕ) → i ≤ length c.gates → ReadsBefore (by_rank r k c.gates) →
+      ReadsBefore (by_rank r k c.gates ++ of_rank r k (take i c.gates))
+  level_reads k zero fits before = rw (append-nil (by_rank r k c.gates)) before
+  level_reads k (suc i) fits before =
+      let h = get_or c.gates i none in
+      let at : slice_get c.gates i ≡ Some h = slice_get-get_or c.gates i none (omega arith) in
+      let front = by_rank r k c.gates in
+      let level = of_rank r k (take i c.gates) in
+      let so_far = level_reads k i (omega arith) before in
+      let more : of_rank r k (take (suc i) c.gates) ≡ level ++ cond (r h == k) (h ∷ []) [] =
+      rw add-one at (filter_more (λ x. r x == k) c.gates i none (omega arith)) in
+      rw more (elim (cases_eq (r h) k) [
+        | inl same ↦
+            let e : (r h == k) ≡ true = grind (arith, nat_tests) in
+            rw (e, ← append_assoc front level (h ∷ [])) (reads_more (front ++ level) h so_far
+            (EachRead-both (IsSetBefore c i)
+            (λ w. 2 * and_depths c w + 1 ≤ r h)
+            (IsSetIn (front ++ level)) h.operation (set_in k i h at same) (lawful.reads i h at)
+            (rank_read (and_depths c) h.operation)))
+        | inr other ↦
+            let e : (r h == k) ≡ false = grind (arith, nat_tests) in
+            rw (e, append-nil level) so_far
+      ])
+
+  by_rank_reads : (n : ℕ) → ReadsBefore (by_rank r n c.gates)
+  by_rank_reads zero = λ p h at. let within = slice_get_within [] p h at in absurd (omega arith)
+  by_rank_reads (suc n) =
+      let whole = take-length c.gates in
+      rw whole at (level_reads n (length c.gates) (omega arith) (by_rank_reads n))
+
+  -- a wire that is set in this sense is set in the other
+  set_before : (gates : List Gate) (p w : ℕ) → IsSetIn (take p gates) w →
+      IsSetBefore (with_gates c gates) p w
+  set_before gates p w (inl input) = inl input
+  set_before gates p w (inr (g, inside, sets)) =
+      let (q, at) = at_contains (take p gates) g inside in
+      let within = slice_get_within (take p gates) q g at in
+      let there : slice_get gates q ≡ Some g = grind (arith, common_steps, gets, at) in
+      inr (
+        q,
+        omega (arith, within, length-take p gates),
+        record { gate = g; at = there; wire = sets },
+      )
+
+  module _ (n : ℕ) (low : AllByRecursion (λ g. r g < n) c.gates) where
+    pub by_rank_permuted : IsPermutation c.gates (by_rank r n c.gates)
+    by_rank_permuted = permuted r n c.gates low
+
+    -- The gates in order of rank make a lawful circuit.
+    pub by_rank_lawful : IsLawful (with_gates c (by_rank r n c.gates))
+    by_rank_lawful = reordered_lawful c lawful (by_rank r n c.gates) by_rank_permuted (λ p h at.
+        EachRead-map (IsSetIn (take p (by_rank r n c.gates)))
+        (IsSetBefore (with_gates c (by_rank r n c.gates)) p) h.operation
+        (set_before (by_rank r n c.gates) p) (by_rank_reads n p h at))
+
+    pub by_rank_reorders : IsReordering c (with_gates c (by_rank r n c.gates))
+    by_rank_reorders = record {
+      wires = refl;
+      input_widths = refl;
+      output_widths = refl;
+      gates = by_rank_permuted;
+    }
+
+    -- They are in order of depth.
+    pub by_rank_by_depth : IsByDepth (with_gates c (by_rank r n c.gates))
+    by_rank_by_depth = record {
+      depth = and_depths c;
+      depths = solves_too and_depth_rule (λ v i j g. refl) c (with_gates c (by_rank r n c.gates))
+          by_rank_reorders (λ _. 0) (and_depths c) (depths_are c lawful);
+      in_order = nondecreasing r n c.gates;
+    }

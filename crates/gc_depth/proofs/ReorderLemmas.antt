@@ -1,0 +1,142 @@
+-- A circuit with its gates in another order.
+use Rattle.std.proofs.Common.{◌≡◌, ◌≢◌, ℕ, zero, suc, ◌<◌, ◌≤◌, ◌==◌, inl, inr, List, [], ◌∷◌, length, map, sum, get_or, slice_get, Some, Bool, true, false, cond, refl, sym, ap, ◌∙◌, subst, arith}
+use Rattle.std.specs.List.{filter, Contains, IsDistinct}
+use Rattle.std.specs.List.Sorted.{IsPermutation}
+use Rattle.std.proofs.lemmas.Bool.Decides.{nat_tests}
+use Rattle.std.proofs.lemmas.Option.{slice_get_within, slice_get_read, slice_get-get_or, get_or_from_slice_get}
+use Rattle.std.proofs.lemmas.List.{length-map, get_or-map}
+use Rattle.std.proofs.lemmas.List.Elements.{Contains-append_right}
+use Rattle.std.proofs.lemmas.List.Sorted.{Contains-permutation, IsPermutation-sym, IsPermutation-map, length_permutation}
+use Rattle.std.proofs.lemmas.Map.Keys.{IsDistinct-from_apart, IsDistinct-IsPermutation, apart_from_distinct}
+use Rattle.gc_netlist.specs.declared.limits.TheConstants.{MAX_GATES}
+use Rattle.gc_netlist.specs.declared.gate.Gate.{Gate}
+use Rattle.gc_netlist.specs.declared.gate.Operation.TheVariants.{Eq}
+use Rattle.gc_netlist.specs.Circuit.{Netlist, EachRead, IsSetBefore, IsSet, IsLawful}
+use Rattle.gc_netlist.specs.Solution.{Solves}
+use Rattle.gc_circuit.specs.Gates.{with_gates}
+use Rattle.gc_depth.specs.Order.{IsReordering}
+
+-- An item at a place is one that the list contains.
+pub contains_at : {X : Type 0} (xs : List X) (i : ℕ) (x : X) → slice_get xs i ≡ Some x → Contains xs x
+contains_at xs i x at = (i, slice_get_within xs i x at, get_or_from_slice_get xs i x x at)
+
+pub at_contains : {X : Type 0} (xs : List X) (x : X) → Contains xs x → (i : ℕ) × (slice_get xs i ≡ Some x)
+at_contains xs x (i, within, is) = (i, slice_get_read xs (length xs) i x refl within (sym is))
+
+contains_cond : {X : Type 0} (b : Bool) (y : X) (xs : List X) (x : X) → Contains xs x →
+    Contains (cond b (y ∷ xs) xs) x
+contains_cond true y xs x h = Contains-append_right (y ∷ []) xs x h
+contains_cond false y xs x h = h
+
+pub contains_filter : {X : Type 0} (p : X → Bool) (xs : List X) (x : X) → p x ≡ true →
+    Contains xs x → Contains (filter p xs) x
+contains_filter p [] x passes (k, within, is) = absurd (omega arith)
+contains_filter p (y ∷ ys) x passes (zero, within, is) =
+    let e : y ≡ x = is in
+    let q : p y ≡ true = rw e passes in
+    rw q (0, omega arith, e)
+contains_filter p (y ∷ ys) x passes (suc k, within, is) =
+    contains_cond (p y) y (filter p ys) x (contains_filter p ys x passes (k, omega arith, is))
+
+abbrev pub set_by : Gate → ℕ
+set_by g = g.set
+
+-- some gate
+pub none : Gate
+none = record { operation = Eq false; set = 0 }
+
+gate_at : (gates : List Gate) (i : ℕ) (d : ℕ) → i < length gates →
+    (g : Gate) × (slice_get gates i ≡ Some g) × (get_or (map set_by gates) i d ≡ g.set)
+gate_at gates i d within =
+    (get_or gates i none, slice_get-get_or gates i none within, get_or-map set_by gates i none d within)
+
+module _ (c : Netlist) (lawful : IsLawful c) where
+  -- no two gates set one wire
+  distinct : IsDistinct (λ (a b : ℕ). a == b) (map set_by c.gates)
+  distinct = IsDistinct-from_apart (λ (a b : ℕ). a == b) (map set_by c.gates) (λ i j d below within.
+      let long = length-map c.gates set_by in
+      let first = gate_at c.gates i d (omega (arith, long, within, below)) in
+      let last = gate_at c.gates j d (omega (arith, long, within)) in
+      let apart : first.0.set ≢ last.0.set = λ e. lawful.sets_once j last.0 last.1
+      (inr (i, below, record { gate = first.0; at = first.1; wire = e })) in
+      rw (first.2, last.2) (grind (arith, nat_tests)))
+
+  module _ (gates : List Gate) (permuted : IsPermutation c.gates gates) where
+    there : (g : Gate) → Contains gates g → Contains c.gates g
+    there g h = Contains-permutation gates c.gates g (IsPermutation-sym c.gates gates permuted) h
+
+    distinct_too : IsDistinct (λ (a b : ℕ). a == b) (map set_by gates)
+    distinct_too = IsDistinct-IsPermutation (λ (a b : ℕ). a == b) (λ a b. grind (arith, nat_tests))
+        (map set_by c.gates) (map set_by gates) (IsPermutation-map set_by c.gates gates permuted) distinct
+
+    two_apart : (i j : ℕ) (g h : Gate) → i < j → slice_get gates i ≡ Some g →
+        slice_get gates j ≡ Some h → g.set ≢ h.set
+    two_apart i j g h below at_i at_j same =
+        let in_i = slice_get_within gates i g at_i in
+        let in_j = slice_get_within gates j h at_j in
+        let apart = apart_from_distinct (λ (a b : ℕ). a == b) (map set_by gates) i j 0 distinct_too below
+        (omega (arith, length-map gates set_by, in_j)) in
+        let e : get_or (map set_by gates) i 0 ≡ g.set = get_or-map set_by gates i g 0 in_i
+        ∙ ap set_by (get_or_from_slice_get gates i g g at_i) in
+        let f : get_or (map set_by gates) j 0 ≡ h.set = get_or-map set_by gates j h 0 in_j
+        ∙ ap set_by (get_or_from_slice_get gates j h h at_j) in
+        let a = rw (e, f) at apart in
+        grind (arith, nat_tests)
+
+    -- A wire that a gate sets is set.
+    set_too : (w : ℕ) → IsSet c w → IsSet (with_gates c gates) w
+    set_too w (inl input) = inl input
+    set_too w (inr (i, below, by)) =
+        let (j, at) = at_contains gates by.gate (Contains-permutation c.gates gates by.gate permuted
+        (contains_at c.gates i by.gate by.at)) in
+        inr (
+          j,
+          slice_get_within gates j by.gate at,
+          record { gate = by.gate; at = at; wire = by.wire },
+        )
+
+    -- If each gate reads only wires that are set before it, the circuit is lawful.
+    pub reordered_lawful : ((i : ℕ) (g : Gate) → slice_get gates i ≡ Some g →
+        EachRead (IsSetBefore (with_gates c gates) i) g.operation) → IsLawful (with_gates c gates)
+    reordered_lawful reads = record {
+      few_gates = subst (λ n. n ≤ MAX_GATES) (sym (length_permutation c.gates gates permuted)) lawful.few_gates;
+      few_wires = lawful.few_wires;
+      few_inputs = lawful.few_inputs;
+      few_outputs = lawful.few_outputs;
+      inputs_fit = lawful.inputs_fit;
+      outputs_fit = lawful.outputs_fit;
+      reads = reads;
+      sets = λ i g at.
+          let (j, at_j) = at_contains c.gates g (there g (contains_at gates i g at)) in
+          lawful.sets j g at_j;
+      sets_once = λ i g at before. once i g at before;
+      outputs_set = λ w last below. set_too w (lawful.outputs_set w last below);
+    }
+      where
+        once : (i : ℕ) (g : Gate) → slice_get gates i ≡ Some g →
+            IsSetBefore (with_gates c gates) i g.set → ⊥
+        once i g at (inl input) =
+            let (j, at_j) = at_contains c.gates g (there g (contains_at gates i g at)) in
+            lawful.sets_once j g at_j (inl input)
+        once i g at (inr (k, below, by)) = two_apart k i by.gate g below by.at at by.wire
+
+pub reordering_back : (c d : Netlist) → IsReordering c d → IsReordering d c
+reordering_back c d h = record {
+  wires = sym h.wires;
+  input_widths = sym h.input_widths;
+  output_widths = sym h.output_widths;
+  gates = IsPermutation-sym c.gates d.gates h.gates;
+}
+
+-- Values that solve a rule which knows no place solve it wherever the gates are.
+pub solves_too : {A : Type 0} (rule : (ℕ → A) → ℕ → Gate → A) →
+    ((v : ℕ → A) (i j : ℕ) (g : Gate) → rule v i g ≡ rule v j g) → (c d : Netlist) →
+    IsReordering c d → (given values : ℕ → A) → Solves rule c given values →
+    Solves rule d given values
+solves_too rule placeless c d same given values s = record {
+  inputs = λ w h. s.inputs w (omega (arith, h, ap sum same.input_widths));
+  gates = λ i g at.
+      let (j, at_j) = at_contains c.gates g (Contains-permutation d.gates c.gates g
+      (IsPermutation-sym c.gates d.gates same.gates) (contains_at d.gates i g at)) in
+      s.gates j g at_j ∙ placeless values j i g;
+}

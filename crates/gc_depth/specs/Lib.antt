@@ -1,0 +1,3 @@
+pub mod Depth
+pub mod Ranks
+pub mod Order
