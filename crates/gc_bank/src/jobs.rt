@@ -10,9 +10,8 @@ ghost use Rattle.gc_bank.specs.Workers.{AreBitsOf, AreKnown};
 use crate::apart::evaluate_apart;
 use crate::together::evaluate_together;
 use gc_job::{EvalFault, Job, evaluate};
-use gc_layers::{Way, way_of};
 use gc_rounds::MAX_JOBS;
-use gc_workers::{Gatehouse, MAX_WORKERS};
+use gc_workers::{Gatehouse, MAX_WORKERS, Way, way_of};
 use std::alloc::Allocator;
 use std::thread::Threads;
 
@@ -64,10 +63,7 @@ fn is_shared<A: Allocator, B: Allocator + Copy, C: Allocator>(
     requires { 0 < length jobs.now }
 {
     jobs.len() < workers as usize
-        && matches!(
-            way_of(alloc, jobs[0].circuit(), workers),
-            Ok(Way::Layers | Way::Together)
-        )
+        && matches!(way_of(alloc, jobs[0].circuit(), workers), Ok(Way::Together))
 }
 
 /// The output bits of each job, in order: those that are known, and the others evaluated on one thread.

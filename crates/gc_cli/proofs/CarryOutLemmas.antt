@@ -1,7 +1,7 @@
 -- An order that is no audit returns its lines.
 use Rattle.std.proofs.Common.{ℕ, true, List, refl}
 use Rattle.gc_disk.specs.Files.{FileBytes}
-use Rattle.gc_order.specs.Order.{OrderText, run, plain, check, locate, stats, garble, deal, eval, jobs, list_labels, audit}
+use Rattle.gc_order.specs.Order.{OrderText, run, plain, check, locate, stats, by_depth, garble, deal, eval, jobs, list_labels, audit}
 use Rattle.gc_cli.specs.CarryOut.{Answers, AnswersLines}
 
 pub lines-answer : (old new : FileBytes) (order : OrderText) (out : List ℕ)
@@ -11,6 +11,7 @@ lines-answer old new (plain circuit hex values) out is = (refl, is)
 lines-answer old new (check circuit) out is = (refl, is)
 lines-answer old new (locate circuit) out is = (refl, is)
 lines-answer old new (stats circuit) out is = (refl, is)
+lines-answer old new (by_depth circuit name) out is = (refl, is)
 lines-answer old new (garble circuit seed name version workers) out is = (refl, is)
 lines-answer old new (deal circuit seed index value name) out is = (refl, is)
 lines-answer old new (eval circuit garbled workers hex labels) out is = (refl, is)

@@ -2,12 +2,13 @@
 use Rattle.std.specs.Prelude.{◌≡◌, ℕ, Bool, true, List, IfSome}
 use Rattle.gc_disk.specs.Files.{FileBytes}
 use Rattle.gc_command.specs.declared.fault.Fault.{Fault}
-use Rattle.gc_order.specs.Order.{OrderText, run, plain, check, locate, stats, garble, deal, eval, jobs, list_labels, audit}
+use Rattle.gc_order.specs.Order.{OrderText, run, plain, check, locate, stats, by_depth, garble, deal, eval, jobs, list_labels, audit}
 use Rattle.gc_command.specs.Fault.{HasCause}
 use Rattle.gc_command.specs.Lines.{form_by_flag}
 use Rattle.gc_command.specs.Run.{AnswersRun, HasRunFault}
 use Rattle.gc_command.specs.Plain.{AnswersPlain, HasPlainFault}
 use Rattle.gc_command.specs.Check.{AnswersCheck, HasCheckFault}
+use Rattle.gc_command.specs.Order.{AnswersOrder, HasOrderFault}
 use Rattle.gc_command.specs.Garble.{AnswersGarble, HasGarbleFault}
 use Rattle.gc_command.specs.Deal.{AnswersDeal, HasDealFault}
 use Rattle.gc_command.specs.Eval.{AnswersEval, HasEvalFault}
@@ -25,6 +26,8 @@ AnswersLines old new (run circuit seed workers hex values) out =
 AnswersLines old new (plain circuit hex values) out =
     IfSome (old circuit) (λ file. AnswersPlain file (form_by_flag hex) values out)
 AnswersLines old new (check circuit) out = IfSome (old circuit) (λ file. AnswersCheck file out)
+AnswersLines old new (by_depth circuit name) out =
+    IfSome (old circuit) (λ file. AnswersOrder file (new name) out)
 AnswersLines old new (garble circuit seed name version workers) out =
     IfSome (old circuit) (λ file. AnswersGarble file seed version workers (new name) out)
 AnswersLines old new (deal circuit seed index value name) out =
@@ -56,6 +59,9 @@ HasFault bytes Failed (plain circuit hex values) fault =
     × HasCause fault (Failed circuit) ⊥
 HasFault bytes Failed (check circuit) fault =
     IfSome (bytes circuit) (λ file. HasCheckFault file fault) × HasCause fault (Failed circuit) ⊥
+HasFault bytes Failed (by_depth circuit name) fault =
+    IfSome (bytes circuit) (λ file. HasOrderFault file fault)
+    × HasCause fault (Failed circuit) (Failed name)
 HasFault bytes Failed (garble circuit seed name version workers) fault =
     IfSome (bytes circuit) (λ file. HasGarbleFault file seed workers fault)
     × HasCause fault (Failed circuit) (Failed name)
@@ -78,6 +84,7 @@ HasFault bytes Failed (audit circuit seed garbled labels) fault =
 
 -- The order writes the file of this name.
 abbrev pub Writes : OrderText → List ℕ → Type 0
+Writes (by_depth circuit out) name = name ≡ out
 Writes (garble circuit seed out version workers) name = name ≡ out
 Writes (deal circuit seed index value out) name = name ≡ out
 Writes order name = ⊥

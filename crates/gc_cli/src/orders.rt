@@ -15,6 +15,7 @@ use gc_command::garble::garble;
 use gc_command::jobs::jobs;
 use gc_command::labels::labels;
 use gc_command::locate::locate;
+use gc_command::order::order as by_depth;
 use gc_command::plain::plain;
 use gc_command::run::run;
 use gc_command::stats::stats;
@@ -49,6 +50,7 @@ pub fn carry_out<
         Order::Check { circuit } => Ok(Answer::made(check(context, circuit.as_str(), files)?)),
         Order::Locate { circuit } => Ok(Answer::made(locate(alloc, circuit.as_str(), files)?)),
         Order::Stats { circuit } => Ok(Answer::made(stats(alloc, circuit.as_str(), files)?)),
+        Order::ByDepth(order) => Ok(Answer::made(by_depth(context, order, files)?)),
         Order::Garble(order) => Ok(Answer::made(garble(context, order, files)?)),
         Order::Deal(order) => Ok(Answer::made(deal(alloc, order, files)?)),
         Order::Eval(order) => Ok(Answer::made(eval(context, order, files)?)),

@@ -8,6 +8,8 @@ use Rattle.gc_file.specs.Written.{IsWritten}
 use Rattle.gc_command.specs.declared.fault.Fault.TheVariants as faults
 use Rattle.gc_command.specs.Wrote.{IsUnwritten}
 use Rattle.gc_command.specs.Deal.{IsDealInput, HasDealFault}
+use Rattle.gc_command.specs.CircuitFile.{IsCircuit}
+use Rattle.gc_command.specs.Order.{HasOrderFault}
 use Rattle.gc_command.specs.Garble.{IsGarbleInput, HasGarbleFault}
 
 -- two facts of one known value, joined
@@ -31,6 +33,12 @@ deal-unwritten bytes seed_text index text c seed bits input faults.CannotWrite h
     (c, (seed, (bits, input)))
 deal-unwritten bytes seed_text index text c seed bits input faults.Memory h = tt
 deal-unwritten bytes seed_text index text c seed bits input fault h = absurd h
+
+pub order-unwritten : (bytes : List ℕ) (c : Netlist) → IsCircuit bytes c → (fault : Fault)
+    → IsUnwritten fault → HasOrderFault bytes fault
+order-unwritten bytes c is faults.CannotWrite h = (c, is)
+order-unwritten bytes c is faults.Memory h = tt
+order-unwritten bytes c is fault h = absurd h
 
 pub garble-unwritten : (bytes seed_text : List ℕ) (workers : ℕ) (c : Netlist) (seed : List ℕ)
     → IsGarbleInput bytes seed_text c seed → AreFew workers → (fault : Fault) → IsUnwritten fault

@@ -8,6 +8,7 @@ pub mod Plain
 pub mod Check
 pub mod SeedText
 pub mod Wrote
+pub mod Order
 pub mod Garble
 pub mod Deal
 pub mod Job

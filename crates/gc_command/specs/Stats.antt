@@ -1,11 +1,15 @@
 -- The command `stats`: what it returns, and which fault it has.
-use Rattle.std.specs.Prelude.{◌≡◌, ℕ, List, ◌++◌, codes}
+use Rattle.std.specs.Prelude.{◌≡◌, ◌==◌, ℕ, ◌/◌, List, ◌++◌, codes, if◌then◌else◌}
 use Rattle.gc_netlist.specs.Circuit.{Netlist}
 use Rattle.gc_audit.specs.declared.figures.Stats.{Stats}
 use Rattle.gc_audit.specs.Stats.{IsStats}
 use Rattle.gc_command.specs.declared.fault.Fault.{Fault}
 use Rattle.gc_command.specs.CircuitFile.{IsCircuit, HasCircuitFault}
 use Rattle.gc_command.specs.Lines.{count_line}
+
+-- How many AND gates there are for each AND depth, rounded down; 0 where there are none.
+abbrev pub level_width : Stats → ℕ
+level_width stats = if stats.and_depth == 0 then 0 else stats.and / stats.and_depth
 
 -- The lines of a circuit's statistics.
 abbrev pub stats_lines : Stats → List ℕ
@@ -17,6 +21,7 @@ stats_lines stats =
     ++ count_line (codes "eqw") stats.eqw
     ++ count_line (codes "depth") stats.depth
     ++ count_line (codes "and_depth") stats.and_depth
+    ++ count_line (codes "level_width") (level_width stats)
     ++ count_line (codes "unread") stats.unread
     ++ count_line (codes "garbled1") stats.garbled1
     ++ count_line (codes "garbled2") stats.garbled2

@@ -22,6 +22,7 @@ mod line_group;
 mod lines;
 mod listed_job;
 pub mod locate;
+pub mod order;
 mod own_files;
 pub mod plain;
 mod progress;

@@ -11,6 +11,8 @@ pub enum Stage {
     ReadingFiles,
     /// Reading the files of job `job` of `jobs`, counted from 1.
     ReadingJob { job: usize, jobs: usize },
+    /// Putting the circuit's gates in order, and writing them.
+    Ordering,
     /// Garbling this number of gates.
     Garbling { gates: u32 },
     /// Writing the garbled file.
@@ -27,6 +29,7 @@ impl Display for Stage {
             Stage::ReadingCircuit => f.write_str("reading the circuit"),
             Stage::ReadingFiles => f.write_str("reading the files"),
             Stage::ReadingJob { job, jobs } => write!(f, "reading job {job} of {jobs}"),
+            Stage::Ordering => f.write_str("ordering the gates"),
             Stage::Garbling { gates } => write!(f, "garbling {gates} gates"),
             Stage::Writing => f.write_str("writing the garbled file"),
             Stage::Evaluating { gates } => write!(f, "evaluating {gates} gates"),

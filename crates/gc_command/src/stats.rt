@@ -2,7 +2,7 @@
 
 ghost use Rattle.std.specs.Prelude.{◌≡◌, ℕ, List, IfOk, IfErr, IfSome};
 ghost use Rattle.gc_command.specs.Fault.{HasReadCause};
-ghost use Rattle.gc_command.specs.Stats.{AnswersStats, HasStatsFault, stats_lines};
+ghost use Rattle.gc_command.specs.Stats.{AnswersStats, HasStatsFault, level_width, stats_lines};
 
 use crate::circuit_file::read_circuit;
 use crate::fault::Fault;
@@ -31,6 +31,17 @@ pub fn stats<A: Allocator + Copy, F: Files>(
     Ok(stats_lines(alloc, &stats)?)
 }
 
+/// How many AND gates there are for each AND depth, rounded down; 0 where there are none.
+fn level_width(stats: &Stats) -> u64
+    ensures { result ≡ level_width stats.now }
+{
+    if stats.and_depth == 0 {
+        0
+    } else {
+        u64::from(stats.and / stats.and_depth)
+    }
+}
+
 /// The lines of a circuit's statistics.
 fn stats_lines<A: Allocator>(alloc: A, stats: &Stats) -> Result<Vec<u8, A>, AllocError>
     ensures { IfOk result (λ lines. lines.items ≡ stats_lines stats.now) }
@@ -43,6 +54,7 @@ fn stats_lines<A: Allocator>(alloc: A, stats: &Stats) -> Result<Vec<u8, A>, Allo
     push_count(&mut lines, "eqw", u64::from(stats.eqw))?;
     push_count(&mut lines, "depth", u64::from(stats.depth))?;
     push_count(&mut lines, "and_depth", u64::from(stats.and_depth))?;
+    push_count(&mut lines, "level_width", level_width(stats))?;
     push_count(&mut lines, "unread", u64::from(stats.unread))?;
     push_count(&mut lines, "garbled1", stats.garbled1)?;
     push_count(&mut lines, "garbled2", stats.garbled2)?;

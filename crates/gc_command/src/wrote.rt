@@ -1,13 +1,14 @@
 //! Files that a command has written, and the line that it prints of them.
 
 ghost use Rattle.std.specs.Prelude.{◌≡◌, ◌<◌, ◌≤◌, ◌≢◌, ℕ, List, [], Some, IfOk, IfErr, IsOk, OnOk, OnErr, vec_capacity};
+ghost use Rattle.gc_file.specs.Counted.{CountsFailure};
 ghost use Rattle.gc_file.specs.Written.{IsWritten};
 ghost use Rattle.gc_disk.specs.Files.{HasFailed};
 ghost use Rattle.gc_command.specs.Wrote.{HasWritten, KeepsFiles, wrote_line};
 
 use crate::fault::Fault;
 use gc_disk::Files;
-use gc_file::WriteFault;
+use gc_file::{Sink, WriteFault};
 use itoa::Buffer;
 use std::alloc::Allocator;
 
@@ -47,6 +48,21 @@ pub fn keep_written<A: Allocator, F: Files>(
             Err(Fault::CannotWrite)
         }
     }
+}
+
+/// Writes a file of these bytes to a sink that has taken none. Returns how many there are.
+pub fn write_bytes<S: Sink>(sink: &mut S, bytes: &[u8]) -> Result<u64, WriteFault>
+    ensures file { IsWritten bytes.now result (S.taken sink.old) (S.taken sink.new) }
+    ensures counted { CountsFailure result (S.failures sink.old) (S.failures sink.new) }
+{
+    let mut sent = 0;
+    while sent < bytes.len() {
+        match sink.put(&bytes[sent..]) {
+            Ok(n) => sent += n,
+            Err(_) => return Err(WriteFault { sent: sent as u64 }),
+        }
+    }
+    Ok(sent as u64)
 }
 
 /// The line that states a number of bytes, in `room`, under the same condition on it.

@@ -13,8 +13,7 @@ use crate::seat::EvalBoard;
 use crate::worker::{Worker, seats_of, workers_of};
 use gc_circuit::Memory;
 use gc_job::{EvalFault, Job, evaluate};
-use gc_layers::{Way, evaluate_by_layers, way_of};
-use gc_workers::{Gatehouse, MAX_WORKERS, report_all};
+use gc_workers::{Gatehouse, MAX_WORKERS, Way, report_all, way_of};
 use std::alloc::Allocator;
 use std::sync::Wait;
 use std::thread;
@@ -22,11 +21,10 @@ use std::thread::Threads;
 
 /// Evaluates a job with this number of workers: the result is what [`evaluate`] returns, honest job or not. The calling
 /// thread is worker 0; a thread is started for each other worker that has something to do, and where one can't be
-/// started the calling thread does its work too. Where many AND gates near each other can be evaluated at once, worker
-/// 0 goes from gate to gate and all evaluate the AND gates that it passed ([`evaluate_by_layers`]). Where half of the
-/// gates are AND and three gates in four need no gate of another worker's share, each has a seat at a board. Else
-/// worker 0 evaluates alone, as it does where the workers can't have their memory. `observer.before` is called for each
-/// gate before it is evaluated, and ahead of each step at a board.
+/// started the calling thread does its work too. Where half of the gates are AND and three gates in four need no gate of
+/// another worker's share ([`way_of`]), each has a seat at a board. Else worker 0 evaluates alone, as it does where the
+/// workers can't have their memory. `observer.before` is called for each gate before it is evaluated, and ahead of each
+/// step at a board.
 ///
 /// It refuses 0 workers and more than [`MAX_WORKERS`]: 22.
 pub fn evaluate_many<
@@ -62,8 +60,8 @@ pub fn evaluate_many<
     }
 }
 
-/// What the workers evaluate by layers or on a board. There is no result where there is no memory for it, or where one
-/// thread does as well.
+/// What the workers evaluate on a board. There is no result where there is no memory for it, or where one thread does as
+/// well.
 fn evaluate_by_many<
     A: Allocator + Send + Sync,
     B: Allocator + Copy + Send + Sync,
@@ -82,44 +80,9 @@ fn evaluate_by_many<
     ensures err { IfErr result (λ fault. IsEvaluated job.now (Err fault)) }
 {
     match way_of(alloc, job.circuit(), workers) {
-        Ok(Way::Layers) => evaluate_layers(rt, alloc, job, workers, observer),
         Ok(Way::Together) => evaluate_together(rt, alloc, job, workers, observer),
         Ok(Way::Alone) | Err(Memory) => Ok(None),
     }
-}
-
-/// What the workers evaluate by layers. There is no result where there is no memory for it.
-fn evaluate_layers<
-    A: Allocator + Send + Sync,
-    B: Allocator + Copy + Send + Sync,
-    C: Allocator + Send + Sync,
-    H: Gatehouse + Sync,
-    R: Threads + Wait + Sync,
->(
-    rt: &R,
-    alloc: B,
-    job: &Job<'_, A, C>,
-    workers: u32,
-    observer: &H,
-) -> Result<Option<Vec<bool, B>>, EvalFault>
-    ensures ok { IfOk result (λ o. IfSome o (λ v. IsEvaluated job.now (Ok v.items))) }
-    ensures err { IfErr result (λ fault. IsEvaluated job.now (Err fault)) }
-{
-    // `circuit` also says that the job is whole.
-    let circuit = job.circuit();
-    let found = evaluate_by_layers(
-        rt,
-        alloc,
-        circuit,
-        job.rows(),
-        job.inputs(),
-        workers,
-        observer,
-    );
-    let Ok(Some(labels)) = found else {
-        return Ok(None);
-    };
-    Ok(Some(job.decode(alloc, &labels)?))
 }
 
 /// What the workers evaluate on a board. There is no result where there is no memory for it, or where an output wire

@@ -14,8 +14,6 @@ mod growth;
 #[cfg(test)]
 mod jobs;
 #[cfg(test)]
-mod layers;
-#[cfg(test)]
 mod rounds;
 #[cfg(test)]
 mod workers;

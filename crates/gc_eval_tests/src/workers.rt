@@ -3,7 +3,7 @@
 use crate::fixtures::{answer_of_bits, on_zeros};
 use gc_eval::evaluate_many;
 use gc_fixtures::calling::Calling;
-use gc_fixtures::circuits::{FULL_ADDER, and_chains, many_ands, mixed_layers};
+use gc_fixtures::circuits::{FULL_ADDER, and_chains, many_ands, mixed_chains};
 use gc_fixtures::compare::equal;
 use gc_fixtures::counting::Counting;
 use gc_fixtures::growths::{Met, refusals_met};
@@ -25,15 +25,10 @@ fn meet<R: AllocGlobal + Threads + Wait + Sync>(rt: &R, text: &str) -> Result<()
     })
 }
 
-/// Two workers evaluate 2,000 independent AND gates.
+/// Two workers evaluate 2,000 AND gates: independent ones, and those of forty chains.
 #[test]
 fn two_evaluators_meet(rt: HostRuntime) -> Result<(), Fail> {
-    meet(&rt, many_ands(rt.alloc(), 2000)?.as_str())
-}
-
-/// Forty chains, whose layers are of one gate, are evaluated at a board.
-#[test]
-fn two_evaluators_meet_at_a_board(rt: HostRuntime) -> Result<(), Fail> {
+    meet(&rt, many_ands(rt.alloc(), 2000)?.as_str())?;
     meet(&rt, and_chains(rt.alloc(), 40, 50)?.as_str())
 }
 
@@ -69,24 +64,23 @@ fn are_reported<R: AllocGlobal + Threads + Wait + Sync>(
     })
 }
 
-/// Once on one thread, and by layers with gates of each operation; at a board, where gates are stepped one, two and
-/// four at once, at least once.
+/// Once on one thread; at a board, with gates of each operation and where gates are stepped one, two and four at once, at
+/// least once.
 #[test]
 fn each_gate_is_reported(rt: HostRuntime) -> Result<(), Fail> {
     let alloc = rt.alloc();
     are_reported(&rt, FULL_ADDER, 1)?;
-    are_reported(&rt, mixed_layers(alloc, 1100)?.as_str(), 1)?;
+    are_reported(&rt, mixed_chains(alloc, 64, 64)?.as_str(), u64::MAX)?;
     are_reported(&rt, and_chains(alloc, 64, 32)?.as_str(), u64::MAX)?;
     are_reported(&rt, chains_by_fours(alloc)?.as_str(), u64::MAX)
 }
 
-/// On one thread, by layers, and at a board.
+/// On one thread, and at a board.
 #[test]
 fn worker_0_is_the_calling_thread(rt: HostRuntime) -> Result<(), Fail> {
     let alone = String::from_str(rt.alloc(), FULL_ADDER)?;
-    let by_layers = mixed_layers(rt.alloc(), 600)?;
     let at_a_board = and_chains(rt.alloc(), 64, 32)?;
-    for text in [&alone, &by_layers, &at_a_board] {
+    for text in [&alone, &at_a_board] {
         on_zeros(rt.alloc(), text.as_str(), |job| {
             let observer = Calling::new(rt)?;
             evaluate_many(&rt, rt.alloc(), job, 4, &observer)?;
@@ -109,7 +103,7 @@ fn refused_runs<R: AllocGlobal + Threads + Wait + Sync>(
     Ok(met)
 }
 
-/// Choosing the way allocates twice where there are several threads; the board six times, the workers once each and
+/// Choosing the way allocates once where there are several threads; the board six times, the workers once each and
 /// once together, the seats that are back once, and the output labels and bits once each. Only without memory for one
 /// of the last two is there no result. On one thread there are the labels of all wires, those of the output wires, and
 /// the bits, and no result without them.
@@ -121,7 +115,7 @@ fn each_growth_refused(rt: HostRuntime) -> Result<(), Fail> {
         equal((refused.runs, refused.plain), (3, 0))
     })?;
     on_zeros(alloc, and_chains(alloc, 64, 16)?.as_str(), |job| {
-        for (workers, runs, plain) in [(2, 14, 12), (64, 76, 74)] {
+        for (workers, runs, plain) in [(2, 13, 11), (64, 75, 73)] {
             let before_fault = plain;
             let wanted = Met {
                 runs,
@@ -131,20 +125,5 @@ fn each_growth_refused(rt: HostRuntime) -> Result<(), Fail> {
             equal(refused_runs(&rt, job, workers)?, wanted)?;
         }
         Ok(())
-    })
-}
-
-/// Two workers that go by layers: there are AND gates enough for a second thread. Choosing the way allocates once,
-/// the labels once, the queues twice, the list of blocks and the marks once each, the first block twice, the postponed
-/// gates three times and the second block twice; after these 13 come further blocks, and at last the output labels and
-/// bits once each. How many blocks there are depends on how fast the helper is, and so does the number of the growth
-/// without which there is no result: that of the bits, the last one.
-#[test]
-fn each_growth_of_layers_refused(rt: HostRuntime) -> Result<(), Fail> {
-    let text = many_ands(rt.alloc(), 1100)?;
-    on_zeros(rt.alloc(), text.as_str(), |job| {
-        let refused = refused_runs(&rt, job, 2)?;
-        let is_right = refused.runs >= 15 && refused.before_fault >= 14;
-        equal((refused, is_right), (refused, true))
     })
 }

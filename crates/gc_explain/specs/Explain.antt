@@ -8,7 +8,7 @@ use Rattle.gc_file.specs.declared.fault.FileFault.{FileFault}
 use Rattle.gc_file.specs.declared.fault.FileFault.TheVariants as file
 use Rattle.gc_file.specs.FileFault.{FirstFault, FirstLabelFault}
 use Rattle.gc_disk.specs.Files.{FileBytes}
-use Rattle.gc_order.specs.Order.{OrderText, run, plain, check, locate, stats, garble, deal, eval, jobs, list_labels, audit}
+use Rattle.gc_order.specs.Order.{OrderText, run, plain, check, locate, stats, by_depth, garble, deal, eval, jobs, list_labels, audit}
 use Rattle.gc_command.specs.declared.fault.Fault.{Fault}
 use Rattle.gc_command.specs.declared.fault.Fault.TheVariants.{Circuit, File, Evaluation}
 use Rattle.gc_job.specs.declared.fault.EvalFault.TheVariants.{UnknownOutputLabel}
@@ -22,6 +22,7 @@ circuit_of (plain circuit hex values) = circuit
 circuit_of (check circuit) = circuit
 circuit_of (locate circuit) = circuit
 circuit_of (stats circuit) = circuit
+circuit_of (by_depth circuit out) = circuit
 circuit_of (garble circuit seed out version workers) = circuit
 circuit_of (deal circuit seed index value out) = circuit
 circuit_of (eval circuit garbled workers hex labels) = circuit

@@ -130,6 +130,7 @@ pub(crate) fn circuit_of(order: &Order) -> &str
         Order::Check { circuit } => circuit,
         Order::Locate { circuit } => circuit,
         Order::Stats { circuit } => circuit,
+        Order::ByDepth(order) => &order.circuit,
         Order::Garble(garble) => &garble.circuit,
         Order::Deal(deal) => &deal.circuit,
         Order::Eval(eval) => &eval.circuit,

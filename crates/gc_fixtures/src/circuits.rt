@@ -64,61 +64,32 @@ pub fn and_chains(alloc: Global, chains: u32, length: u32) -> Result<String, Fai
     Ok(text)
 }
 
-/// The `i`-th AND gate of the first layer.
-fn first_layer(alloc: Global, ands: u32, i: u32) -> Result<String, Fail> {
-    let (n, i) = (u64::from(ands), u64::from(i));
-    Ok(format!(in alloc; "2 1 {i} {} {} AND\n", n + i, 2 * n + i)?)
+/// The gate of a chain that reads the last wire of the chain and sets the next one: AND gates, and after them gates of
+/// each other operation in turn.
+fn mixed_gate(alloc: Global, chain: u64, place: u64, read: u64, set: u64) -> Result<String, Fail> {
+    let line = match place % 8 {
+        1 => format!(in alloc; "1 1 {read} {set} INV\n")?,
+        3 => format!(in alloc; "2 1 {read} {chain} {set} XOR\n")?,
+        5 => format!(in alloc; "1 1 {read} {set} EQW\n")?,
+        7 => format!(in alloc; "1 1 1 {set} EQ\n")?,
+        _ => format!(in alloc; "2 1 {read} {chain} {set} AND\n")?,
+    };
+    Ok(line)
 }
 
-/// The gates between the layers that follow from the `i`-th AND gate: two read the wire that it sets.
-fn between_layers(alloc: Global, ands: u32, i: u32) -> Result<String, Fail> {
-    let (n, i) = (u64::from(ands), u64::from(i));
-    let (read, set) = (2 * n + i, 3 * n + 4 * i);
-    let first = format!(in alloc; "1 1 {read} {set} INV\n1 1 {set} {} EQW\n", set + 1)?;
-    let (constant, last) = (set + 2, set + 3);
-    Ok(format!(in alloc; "{first}1 1 1 {constant} EQ\n2 1 {read} {constant} {last} XOR\n")?)
-}
-
-/// The `i`-th AND gate of the second layer.
-fn second_layer(alloc: Global, ands: u32, i: u32) -> Result<String, Fail> {
-    let (n, i) = (u64::from(ands), u64::from(i));
-    let read = 3 * n + 4 * i;
-    Ok(format!(in alloc; "2 1 {} {} {} AND\n", read + 3, read + 1, 7 * n + i)?)
-}
-
-/// The gates after the second layer that follow from its `i`-th AND gate: two read the wire that it sets.
-fn after_layers(alloc: Global, ands: u32, i: u32) -> Result<String, Fail> {
-    let (n, i) = (u64::from(ands), u64::from(i));
-    let (read, set) = (7 * n + i, 8 * n + 3 * i);
-    let (second, last) = (set + 1, set + 2);
-    Ok(format!(in alloc; "1 1 {read} {set} INV\n2 1 {read} {i} {second} XOR\n1 1 0 {last} EQ\n")?)
-}
-
-/// The texts of 0 to `count` - 1, one after another.
-fn each_text<F: Fn(u32) -> Result<String, Fail>>(
-    alloc: Global,
-    count: u32,
-    text_of: F,
-) -> Result<String, Fail>
-    requires { F.IsAlwaysCallable text_of }
-{
-    let mut text = String::new(alloc);
-    for i in 0..count {
-        text.push_str(text_of(i)?.as_str())?;
+/// The same chains, in which every other gate is of another operation.
+pub fn mixed_chains(alloc: Global, chains: u32, length: u32) -> Result<String, Fail> {
+    let n = u64::from(chains);
+    let gates = n * u64::from(length);
+    let mut text = format!(in alloc; "{gates} {}\n1 {n}\n1 1\n", n + gates)?;
+    let mut set = n;
+    for chain in 0..n {
+        let mut read = chain;
+        for place in 0..u64::from(length) {
+            text.push_str(mixed_gate(alloc, chain, place, read, set)?.as_str())?;
+            read = set;
+            set = set.saturating_add(1);
+        }
     }
     Ok(text)
-}
-
-/// Two layers of this many AND gates, and gates of each other operation after each. The gates of each of the four parts
-/// follow each other in the file. Two gates read the wire that an AND gate sets, and an AND gate of the second layer
-/// two wires that follow from the same one of the first. Each gate sets an output wire, or a wire that one follows
-/// from. The last gate reads nothing.
-pub fn mixed_layers(alloc: Global, ands: u32) -> Result<String, Fail> {
-    let n = u64::from(ands);
-    let head = format!(in alloc; "{} {}\n2 {n} {n}\n1 {}\n", 9 * n, 11 * n, 3 * n)?;
-    let first = each_text(alloc, ands, |i| first_layer(alloc, ands, i))?;
-    let between = each_text(alloc, ands, |i| between_layers(alloc, ands, i))?;
-    let second = each_text(alloc, ands, |i| second_layer(alloc, ands, i))?;
-    let after = each_text(alloc, ands, |i| after_layers(alloc, ands, i))?;
-    Ok(format!(in alloc; "{head}{first}{between}{second}{after}")?)
 }

@@ -1,6 +1,6 @@
 //! What the tests of several crates share: an allocator that refuses chosen allocations, calls whose allocations are
 //! refused in turn, files in memory, circuits and their files, a comparison, and observers: they let workers meet,
-//! hold them, pause, count gates, or know the calling thread.
+//! pause, count gates, or know the calling thread.
 #![tactic(auto)]
 
 pub mod calling;
@@ -9,7 +9,6 @@ pub mod compare;
 pub mod counting;
 pub mod files;
 pub mod growths;
-pub mod holding;
 pub mod meeting;
 mod mem_files;
 pub mod pausing;

@@ -1,4 +1,4 @@
-//! A gatehouse by which helpers sleep when the work ends.
+//! A gatehouse by which workers sleep when the work ends.
 
 use crate::waiting::pause;
 use gc_workers::Gatehouse;

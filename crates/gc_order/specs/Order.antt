@@ -13,7 +13,7 @@ use Rattle.clap.specs.declared.builder.command.Command.TheViews.{out-Command}
 use Rattle.gc_file.specs.declared.parts.Version.{Version}
 use Rattle.gc_file.specs.declared.parts.Version.TheVariants.{One, Two}
 use Rattle.gc_order.specs.declared.order.Order.{Order}
-use Rattle.gc_order.specs.declared.order.Order.TheVariants.{Run, Plain, Check, Locate, Stats, Garble, Deal, Eval, Jobs, Labels, Audit}
+use Rattle.gc_order.specs.declared.order.Order.TheVariants.{Run, Plain, Check, Locate, Stats, ByDepth, Garble, Deal, Eval, Jobs, Labels, Audit}
 
 -- a positional word that must be there
 abbrev pub required_word : List ℕ → Rule
@@ -88,6 +88,10 @@ locate_command = command_on_circuit (codes "locate")
 abbrev pub stats_command : App
 stats_command = command_on_circuit (codes "stats")
 
+-- `order CIRCUIT OUT`
+abbrev pub order_command : App
+order_command = with_rule (command_on_circuit (codes "order")) (required_word (codes "out"))
+
 -- `garble CIRCUIT SEED OUT [--format FORMAT] [--workers WORKERS]`
 abbrev pub garble_command : App
 garble_command =
@@ -160,7 +164,8 @@ circuit_program =
 -- with those up to `jobs`,
 abbrev pub file_program : App
 file_program =
-    let with_garble = with_subcommand circuit_program garble_command.top in
+    let with_order = with_subcommand circuit_program order_command.top in
+    let with_garble = with_subcommand with_order garble_command.top in
     let with_deal = with_subcommand with_garble deal_command.top in
     let with_eval = with_subcommand with_deal eval_command.top in
     with_subcommand with_eval jobs_command.top
@@ -192,6 +197,7 @@ pub data OrderText : Type 0 where
   check : (circuit : List ℕ) → OrderText
   locate : (circuit : List ℕ) → OrderText
   stats : (circuit : List ℕ) → OrderText
+  by_depth : (circuit out : List ℕ) → OrderText
   garble : (circuit seed out : List ℕ) (version : Version) (workers : ℕ) → OrderText
   deal : (circuit seed : List ℕ) (index : ℕ) (value out : List ℕ) → OrderText
   eval : (circuit garbled : List ℕ) (workers : ℕ) (hex : Bool) (labels : List (List ℕ)) → OrderText
@@ -208,6 +214,7 @@ text_of (Plain o) = plain (string_bytes o.circuit) o.hex (map string_bytes o.val
 text_of (Check circuit) = check (string_bytes circuit)
 text_of (Locate circuit) = locate (string_bytes circuit)
 text_of (Stats circuit) = stats (string_bytes circuit)
+text_of (ByDepth o) = by_depth (string_bytes o.circuit) (string_bytes o.out)
 text_of (Garble o) =
     garble (string_bytes o.circuit) (string_bytes o.seed) (string_bytes o.out) o.version o.workers
 text_of (Deal o) =
@@ -274,6 +281,10 @@ locate_in rows = locate (word_of (codes "circuit") rows)
 abbrev pub stats_in : List Row → OrderText
 stats_in rows = stats (word_of (codes "circuit") rows)
 
+-- The order of `order` in what clap found.
+abbrev pub by_depth_in : List Row → OrderText
+by_depth_in rows = by_depth (word_of (codes "circuit") rows) (word_of (codes "out") rows)
+
 -- The order of `garble` in what clap found.
 abbrev pub garble_in : List Row → OrderText
 garble_in rows =
@@ -331,6 +342,7 @@ command_in name rows =
     else if bytes_eq name (codes "check") then Some (check_in rows)
     else if bytes_eq name (codes "locate") then Some (locate_in rows)
     else if bytes_eq name (codes "stats") then Some (stats_in rows)
+    else if bytes_eq name (codes "order") then Some (by_depth_in rows)
     else if bytes_eq name (codes "garble") then Some (garble_in rows)
     else if bytes_eq name (codes "deal") then Some (deal_in rows)
     else if bytes_eq name (codes "eval") then Some (eval_in rows)

@@ -7,9 +7,15 @@ ghost use Rattle.gc_order.specs.Order.{circuit_program, command_on_circuit, comm
 ghost use Rattle.gc_order.specs.Order.{deal_command, eval_command, explain_flag, file_program};
 ghost use Rattle.gc_order.specs.Order.{garble_command, hex_flag};
 ghost use Rattle.gc_order.specs.Order.{jobs_command, labels_command, locate_command, more_words};
-ghost use Rattle.gc_order.specs.Order.{named_program, new_command, number_option, plain_command, program};
+ghost use Rattle.gc_order.specs.Order.{named_program, new_command, number_option, order_command, plain_command, program};
 ghost use Rattle.gc_order.specs.Order.{required_word, run_command, stats_command, workers_option};
 
+use crate::help::{
+    AUDIT_HELP, AUDITED_HELP, CHECK_HELP, CIRCUIT_HELP, COUNT_HELP, DEAL_HELP, EVAL_HELP,
+    EXPLAIN_HELP, FORMAT_HELP, FROM_HELP, GARBLE_HELP, HEX_HELP, INDEX_HELP, JOBS_HELP,
+    LABEL_FILES_HELP, LABELS_HELP, LIST_HELP, LOCATE_HELP, ORDER_HELP, PLAIN_HELP, PROGRAM_HELP,
+    RUN_HELP, SEED_HELP, STATS_HELP, VALUE_HELP, VALUES_HELP,
+};
 use clap::builder::ValueParser;
 use clap::{Arg, ArgAction, Command};
 use std::alloc::{AllocError, Global};
@@ -19,177 +25,6 @@ const VERSION: &str = "0.9.6";
 
 /// The greatest number that an argument or an option takes. No circuit has as many wires.
 const MOST: u64 = 4_294_967_295;
-
-const PROGRAM_HELP: &str = "\
-With `--args-from FILE`, anywhere before `--`, each line of FILE is an argument in its place. FILE \
-may be /dev/stdin. Other users of the machine can see a command line, but not these lines.
-
-`halfgates help COMMAND` prints what `halfgates COMMAND --help` prints.
-
-Example, with the seed in seed.txt:
-  halfgates garble adder.txt --args-from seed.txt adder.garbled";
-
-/// The help of a command, which ends by naming the option that clap doesn't know.
-macro_rules! command_help {
-    ($help:literal) => {
-        concat!(
-            $help,
-            "\n\nWith `--args-from FILE` the lines of FILE are arguments: see `halfgates --help`."
-        )
-    };
-}
-
-const RUN_HELP: &str = command_help!(
-    "\
-Prints the output values, one per line: a character 0 or 1 for each wire, in wire order, or with \
---hex in hexadecimal, as values may be given.
-
-Example, with a full adder in adder.txt that reads three bits:
-  halfgates run adder.txt 0000000000000000000000000000000000000000000000000000000000000000 1 0 1"
-);
-
-const CHECK_HELP: &str = command_help!(
-    "\
-Prints six lines: `gates`, `wires` and `and` with the number of gates, wires and AND gates, \
-`inputs` and `outputs` with the number of values and the number of wires of each, and `digest` \
-with the SHA-256 of the circuit's canonical text in hexadecimal digits. Two files of the same \
-circuit have the same digest.
-
-Example:
-  halfgates check adder.txt"
-);
-
-const LOCATE_HELP: &str = command_help!(
-    "\
-Prints `no fault` if the text is a valid circuit. Otherwise it prints `fault` with the code and \
-the name of the first fault, `line` and `column` with its place and, where they apply, `gate` and \
-`wire`. Lines and columns are counted from 1, and gates from 0. A column is a byte.
-
-Example:
-  halfgates locate adder.txt"
-);
-
-const STATS_HELP: &str = command_help!(
-    "\
-Prints ten lines: `xor`, `and`, `inv`, `eq` and `eqw` with the number of gates of each operation, \
-`depth` and `and_depth` with the greatest depth of a wire in gates and in AND gates, `unread` with \
-the number of gates that set a wire that no gate and no output value reads, and `garbled1` and \
-`garbled2` with the number of bytes of the garbled file of version 1 and of version 2.
-
-Example:
-  halfgates stats adder.txt"
-);
-
-const PLAIN_HELP: &str = command_help!(
-    "\
-Prints the output values, one per line: a character 0 or 1 for each wire, in wire order, or with \
---hex in hexadecimal, as values may be given.
-
-Example, with a full adder in adder.txt that reads three bits:
-  halfgates plain adder.txt 1 0 1"
-);
-
-const GARBLE_HELP: &str = command_help!(
-    "\
-Writes the garbled file OUT, and prints `wrote` with the number of its bytes. Whoever has it, the \
-circuit and a label file for each input value can evaluate the circuit, without the seed or the \
-values.
-
-Example:
-  halfgates garble adder.txt 0000000000000000000000000000000000000000000000000000000000000000 \
-adder.garbled"
-);
-
-const DEAL_HELP: &str = command_help!(
-    "\
-Writes the label file OUT, with a label for each wire of the input value, and prints `wrote` with \
-the number of its bytes. The seed must be that of the garbled file.
-
-Example, with a full adder in adder.txt that reads three bits, of which the first is 1:
-  halfgates deal adder.txt 0000000000000000000000000000000000000000000000000000000000000000 0 1 \
-first.labels"
-);
-
-const EVAL_HELP: &str = command_help!(
-    "\
-Prints the output values, one per line: a character 0 or 1 for each wire, in wire order, or with \
---hex in hexadecimal, as values may be given. There must be a label file for each input value of the \
-circuit, in any order. Neither the seed nor the values are needed.
-
-Example, with a full adder in adder.txt that reads three bits:
-  halfgates eval adder.txt adder.garbled first.labels second.labels third.labels"
-);
-
-const JOBS_HELP: &str = command_help!(
-    "\
-Each line of LIST that is not blank is a job: the name of its garbled file and then the names of \
-its label files, as `eval` takes them, with spaces or tabs between them. Prints the output values \
-of each job, one per line, and then an empty line.
-
-Example, with a full adder in adder.txt that reads three bits, and the line \
-`adder.garbled first.labels second.labels third.labels` in list.txt:
-  halfgates jobs adder.txt list.txt --workers 4"
-);
-
-const LABELS_HELP: &str = command_help!(
-    "\
-Prints a line for each wire that is set, in wire order: the wire, its zero label, its active label \
-for these values, and its bit. A label has 32 hexadecimal digits. These lines reveal the values \
-and the labels: keep them as secret as the seed.
-
-Example, with a full adder in adder.txt that reads three bits, for the two wires from wire 6 on:
-  halfgates labels adder.txt 0000000000000000000000000000000000000000000000000000000000000000 \
---from 6 --count 2 1 0 1"
-);
-
-const AUDIT_HELP: &str = command_help!(
-    "\
-Garbles the circuit, and compares the files with the result. Prints a line for each part of \
-the garbled file, with `right`, or with `wrong` and where the part first differs: `digest`, \
-`counts`, `rows`, `bits`, which are the decode bits, and `entries`, which a file of version 1 \
-doesn't have. If the counts are wrong, the parts after them are left out. Then it prints a line \
-`labels` for each label file, with the index of its input value and the bits that its labels stand \
-for, or what is wrong with it, and finally `honest` if all is right, or else `dishonest`.
-
-Example, with a full adder in adder.txt and the label file of its first input value:
-  halfgates audit adder.txt 0000000000000000000000000000000000000000000000000000000000000000 \
-adder.garbled first.labels"
-);
-
-const CIRCUIT_HELP: &str = "The file of the circuit, in Bristol Fashion";
-
-const LIST_HELP: &str = "The file with the list of jobs";
-
-const LABEL_FILES_HELP: &str = "A label file for each input value of the circuit, in any order";
-
-const AUDITED_HELP: &str = "Label files of the circuit, any number of them, in any order";
-
-const SEED_HELP: &str = "The seed of the garbling: 64 hexadecimal digits";
-
-const INDEX_HELP: &str = "The index of the input value, counted from 0";
-
-const VALUE_HELP: &str = "\
-The input value: a character 0 or 1 for each wire, in wire order, or x and two hexadecimal digits \
-for each 8 wires, of which the first wire is the lowest bit";
-
-const VALUES_HELP: &str = "\
-A value for each input value of the circuit: a character 0 or 1 for each wire, in wire order, or x \
-and two hexadecimal digits for each 8 wires, of which the first wire is the lowest bit";
-
-const FORMAT_HELP: &str = "\
-The version of the garbled file, 1 or 2: with version 2 `eval` detects wrong output labels";
-
-const FROM_HELP: &str = "The first wire to print, counted from 0";
-
-const HEX_HELP: &str = "\
-Print output values as x and two hexadecimal digits for each 8 wires, of which the first wire is \
-the lowest bit";
-
-const EXPLAIN_HELP: &str = "\
-After the line of a fault, print a second one that says where the fault is and what is wrong; \
-always on where standard error is a terminal";
-
-const COUNT_HELP: &str = "The most lines to print; all by default";
 
 /// The program, with its commands.
 pub(crate) fn halfgates<'a>(alloc: Global) -> Result<Command<'a>, AllocError>
@@ -205,6 +40,7 @@ fn file_program<'a>(alloc: Global) -> Result<Command<'a>, AllocError>
     ensures { IfOk result (HasShape file_program) }
 {
     let program = circuit_program(alloc)?;
+    let program = with_command(program, order(alloc))?;
     let program = with_command(program, garble(alloc))?;
     let program = with_command(program, deal(alloc))?;
     let program = with_command(program, eval(alloc))?;
@@ -290,6 +126,15 @@ fn stats<'a>(alloc: Global) -> Result<Command<'a>, AllocError>
 {
     let about = "Prints the gates, the depths and the file sizes of a circuit";
     command_on_circuit(alloc, "stats", about, STATS_HELP)
+}
+
+/// The command `order`.
+fn order<'a>(alloc: Global) -> Result<Command<'a>, AllocError>
+    ensures { IfOk result (HasShape order_command) }
+{
+    let about = "Writes a circuit with its gates in order of AND depth into a file";
+    let command = command_on_circuit(alloc, "order", about, ORDER_HELP);
+    with_arg(command, out_arg(alloc, "The circuit file to write"))
 }
 
 /// The command `garble`.

@@ -2,10 +2,11 @@
 #![tactic(auto)]
 
 mod commands;
+mod help;
 mod order;
 mod words;
 
 pub use order::{
-    Asked, AuditOrder, DealOrder, EvalOrder, GarbleOrder, JobsOrder, LabelsOrder, Order,
-    PlainOrder, RunOrder, asked_of, order_of,
+    Asked, AuditOrder, ByDepthOrder, DealOrder, EvalOrder, GarbleOrder, JobsOrder, LabelsOrder,
+    Order, PlainOrder, RunOrder, asked_of, order_of,
 };

@@ -2,7 +2,7 @@
 
 ghost use Rattle.std.specs.Prelude.{◌≡◌, map, IfOk, Some, string_bytes};
 ghost use Rattle.clap.specs.Words.{FailsBy, fault_of, found_of, rows_of};
-ghost use Rattle.gc_order.specs.Order.{IsCommandName, audit_in, check_in, command_in, deal_in};
+ghost use Rattle.gc_order.specs.Order.{IsCommandName, audit_in, by_depth_in, check_in, command_in, deal_in};
 ghost use Rattle.gc_order.specs.Order.{eval_in, explains_in, garble_in, jobs_in, labels_in, locate_in, order_in};
 ghost use Rattle.gc_order.specs.Order.{plain_in, program, run_in, stats_in, text_of};
 
@@ -36,6 +36,15 @@ pub struct PlainOrder {
     pub hex: bool,
     /// The text of each input value, in order.
     pub values: Vec<String>,
+}
+
+/// Write a circuit with its gates in order of AND depth into a file.
+#[derive(Drop)]
+pub struct ByDepthOrder {
+    /// The name of the circuit's file.
+    pub circuit: String,
+    /// The name of the ordered circuit's file.
+    pub out: String,
 }
 
 /// Garble a circuit into a file.
@@ -146,6 +155,8 @@ pub enum Order {
     },
     /// Evaluate a circuit without garbling.
     Plain(PlainOrder),
+    /// Write a circuit in order of AND depth into a file.
+    ByDepth(ByDepthOrder),
     /// Garble a circuit into a file.
     Garble(GarbleOrder),
     /// Write the labels of an input value into a file.
@@ -214,6 +225,7 @@ fn named_order(alloc: Global, name: &str, found: &ArgMatches<'_>) -> Result<Orde
         "check" => check_order(alloc, found),
         "locate" => locate_order(alloc, found),
         "stats" => stats_order(alloc, found),
+        "order" => by_depth_order(alloc, found),
         "garble" => garble_order(alloc, found),
         "deal" => deal_order(alloc, found),
         "eval" => eval_order(alloc, found),
@@ -273,6 +285,16 @@ fn stats_order(alloc: Global, found: &ArgMatches<'_>) -> Result<Order, AllocErro
     Ok(Order::Stats {
         circuit: word_of(alloc, found, "circuit")?,
     })
+}
+
+/// The order of `order`, from what clap found of its arguments.
+fn by_depth_order(alloc: Global, found: &ArgMatches<'_>) -> Result<Order, AllocError>
+    ensures { IfOk result (λ order. text_of order ≡ by_depth_in (rows_of (found_of found.now))) }
+{
+    Ok(Order::ByDepth(ByDepthOrder {
+        circuit: word_of(alloc, found, "circuit")?,
+        out: word_of(alloc, found, "out")?,
+    }))
 }
 
 /// The order of `garble`, from what clap found of its arguments.

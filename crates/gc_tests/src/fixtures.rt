@@ -5,7 +5,7 @@ ghost use Rattle.gc_store.specs.Account.{IsForStore};
 ghost use Rattle.gc_workers.specs.declared.TheConstants.{MAX_WORKERS};
 
 use gc_circuit::Circuit;
-use gc_fixtures::circuits::{FULL_ADDER, NO_GATES, and_chains, many_ands, mixed_layers};
+use gc_fixtures::circuits::{FULL_ADDER, NO_GATES, and_chains, many_ands, mixed_chains};
 use gc_fixtures::files::zero_seed;
 use gc_half::garble_one_thread;
 use gc_store::Store;
@@ -28,8 +28,8 @@ pub(crate) enum Shape {
     Ands(u32),
     /// This many chains of AND gates, each of this length.
     Chains(u32, u32),
-    /// Two layers of this many AND gates, and gates of each other operation after each: nine times as many gates.
-    Mixed(u32),
+    /// This many chains, each of this length, in which every other gate is AND.
+    Mixed(u32, u32),
 }
 
 /// The text of a circuit of this shape.
@@ -39,7 +39,7 @@ fn text_of(alloc: Global, shape: Shape) -> Result<String, Fail> {
         Shape::Adder => String::from_str(alloc, FULL_ADDER)?,
         Shape::Ands(gates) => many_ands(alloc, gates)?,
         Shape::Chains(chains, length) => and_chains(alloc, chains, length)?,
-        Shape::Mixed(ands) => mixed_layers(alloc, ands)?,
+        Shape::Mixed(chains, length) => mixed_chains(alloc, chains, length)?,
     };
     Ok(text)
 }

@@ -9,8 +9,6 @@ mod fixtures;
 #[cfg(test)]
 mod growth;
 #[cfg(test)]
-mod layers;
-#[cfg(test)]
 mod pieces;
 #[cfg(test)]
 mod pools;
@@ -20,8 +18,6 @@ mod reading;
 mod refusing;
 #[cfg(test)]
 mod reports;
-#[cfg(test)]
-mod retreats;
 #[cfg(test)]
 mod shared_stores;
 #[cfg(test)]

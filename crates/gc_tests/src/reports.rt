@@ -79,10 +79,10 @@ fn a_gate_is_reported_before_it_is_handed_in(rt: HostRuntime) -> Result<(), Fail
     Ok(())
 }
 
-/// On one thread, by layers, and through a store.
+/// On one thread, and through a store.
 #[test]
 fn worker_0_is_the_calling_thread(rt: HostRuntime) -> Result<(), Fail> {
-    for shape in [Shape::Adder, Shape::Mixed(600), Shape::Chains(64, 32)] {
+    for shape in [Shape::Adder, Shape::Chains(64, 32)] {
         let observer = Calling::new(rt)?;
         assert!(rt; garbles(&rt, shape, 4, &observer)?);
         assert!(rt; observer.is_worker_0());

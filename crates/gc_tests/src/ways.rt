@@ -1,16 +1,19 @@
-//! Tests of the way in which threads go through a circuit.
+//! Tests of whether threads share a circuit.
 
 use crate::fixtures::{Shape, circuit_of};
 use gc_fixtures::compare::equal;
-use gc_layers::{Way, way_of};
+use gc_workers::{Way, way_of};
 use std::test::Fail;
 
-/// Several threads go by layers where they are wide, together where the shares are free, and else alone.
+/// Several threads go together where the shares are free and half of the gates are AND, and else alone.
 #[test]
 fn of_circuits(rt: HostRuntime) -> Result<(), Fail> {
     for (shape, threads, way) in [
-        (Shape::Ands(2000), 4, Way::Layers),
-        (Shape::Mixed(1100), 2, Way::Layers),
+        (Shape::Ands(2000), 4, Way::Together),
+        (Shape::Ands(1000), 4, Way::Alone),
+        (Shape::Mixed(64, 64), 2, Way::Together),
+        (Shape::Mixed(1000, 3), 2, Way::Together),
+        (Shape::Mixed(1100, 2), 1, Way::Alone),
         (Shape::Chains(40, 50), 4, Way::Together),
         (Shape::Chains(1, 3000), 4, Way::Alone),
     ] {

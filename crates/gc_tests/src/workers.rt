@@ -5,14 +5,14 @@ use gc_fixtures::counting::Counting;
 use gc_fixtures::files::zero_seed;
 use gc_fixtures::growths::{answer_of, refusals_met};
 use gc_fixtures::meeting::Meeting;
+use gc_fixtures::pausing::Pausing;
 use gc_work::{WorkFault, garble};
 use gc_workers::Open;
 use std::sync::Wait;
 use std::test::Fail;
 use std::thread::Threads;
 
-/// The workers 0 and 1 make 2,000 gates, each gate once: independent ones go by layers, and forty chains, whose layers
-/// are of one gate, through a store.
+/// The workers 0 and 1 make 2,000 gates, each gate once: independent ones, and those of forty chains.
 #[test]
 fn two_workers_meet(rt: HostRuntime) -> Result<(), Fail> {
     for shape in [Shape::Ands(2000), Shape::Chains(40, 50)] {
@@ -23,13 +23,12 @@ fn two_workers_meet(rt: HostRuntime) -> Result<(), Fail> {
     Ok(())
 }
 
-/// Each by the number of the worker that makes it: on one thread, by layers with gates of each operation, and through a
-/// store.
+/// Each by the number of the worker that makes it: on one thread, and through a store, with gates of each operation.
 #[test]
 fn each_gate_is_reported_once(rt: HostRuntime) -> Result<(), Fail> {
     for (shape, gates) in [
         (Shape::Adder, 5),
-        (Shape::Mixed(1100), 9900),
+        (Shape::Mixed(64, 64), 4096),
         (Shape::Chains(64, 32), 2048),
     ] {
         for workers in [1, 2, 64] {
@@ -70,15 +69,17 @@ fn each_growth_of_few_workers_refused(rt: HostRuntime) -> Result<(), Fail> {
     Ok(())
 }
 
-/// Chains go through a store, and independent AND gates by layers; where they are 4,100, four threads help.
 #[test]
 fn each_growth_of_64_workers_refused(rt: HostRuntime) -> Result<(), Fail> {
-    for (shape, fewest) in [
-        (Shape::Chains(64, 16), 128),
-        (Shape::Ands(2000), 8),
-        (Shape::Ands(4100), 8),
-    ] {
-        assert!(rt; refused(&rt, shape, 64)? > fewest);
-    }
+    assert!(rt; refused(&rt, Shape::Chains(64, 16), 64)? > 128);
+    Ok(())
+}
+
+/// Workers that sleep when the last gate is made end too.
+#[test]
+fn sleeping_workers_end(rt: HostRuntime) -> Result<(), Fail> {
+    let observer = Pausing::new(2048);
+    assert!(rt; garbles(&rt, Shape::Chains(64, 32), 3, &observer)?);
+    assert!(rt; observer.has_paused());
     Ok(())
 }

@@ -14,9 +14,8 @@ use crate::workers::{Workers, open_workers};
 use gc_circuit::{Circuit, Memory};
 use gc_half::{Garbling, garble_one_thread};
 use gc_label::Seed;
-use gc_layers::{Way, garble_by_layers, way_of};
 use gc_store::{SharedStore, Store};
-use gc_workers::{Gatehouse, MAX_WORKERS, report_all};
+use gc_workers::{Gatehouse, MAX_WORKERS, Way, report_all, way_of};
 use std::alloc::Allocator;
 use std::marker::Brand;
 use std::sync::Wait;
@@ -38,10 +37,9 @@ struct Crew<'a, A, H, R> {
 
 /// The garbling of a circuit under a seed, with this number of workers. The calling thread is worker 0.
 ///
-/// [`way_of`] says how it is made. [`Way::Alone`]: worker 0 garbles, and no thread is started. [`Way::Layers`]: worker
-/// 0 goes from gate to gate, and all garble the AND gates that it passed ([`garble_by_layers`]). [`Way::Together`]:
-/// they share a store, from which each takes any gate that is ready. Where a thread can't be started, the calling
-/// thread does its work too. Each gate is reported to the observer before it is sealed.
+/// [`way_of`] says how it is made. [`Way::Alone`]: worker 0 garbles, and no thread is started. [`Way::Together`]: they
+/// share a store, from which each takes any gate that is ready. Where a thread can't be started, the calling thread
+/// does its work too. Each gate is reported to the observer before it is sealed.
 ///
 /// It refuses 0 workers and more than [`MAX_WORKERS`]. Memory is the other fault.
 pub fn garble<
@@ -63,7 +61,6 @@ pub fn garble<
     check_workers(workers)?;
     match way_of(alloc, circuit, workers)? {
         Way::Alone => Ok(garble_alone(alloc, circuit, seed, observer)?),
-        Way::Layers => Ok(garble_by_layers(rt, alloc, circuit, seed, workers, observer)?),
         Way::Together => {
             let ledger = Blank::new(u64::from(MAX_WORKERS));
             let crew = Crew {

@@ -1,5 +1,5 @@
 //! What workers that garble or evaluate a circuit together share: how many there may be, the [`Gatehouse`], which
-//! observes them, sets of numbers, and, of boards and banks, the states of a gate, why these can't be opened or
+//! observes them, whether they share a circuit at all, sets of numbers, and, of boards and banks, the states of a gate, why these can't be opened or
 //! closed, and sums over lists.
 #![tactic(auto)]
 
@@ -7,11 +7,13 @@ mod fault;
 mod gatehouse;
 mod number_set;
 mod states;
+mod way;
 
 pub use fault::{CloseRefused, OpenFault};
 pub use gatehouse::{Gatehouse, Open, report_all};
 pub use number_set::NumberSet;
 pub use states::{DONE, FREE, IN_HAND};
+pub use way::{Way, way_of};
 
 /// The most workers that garble or evaluate together, seats of a board or of banks, and tallies of a store.
 pub const MAX_WORKERS: u32 = 64;

@@ -1,5 +1,0 @@
-pub mod Names
-pub mod EvaluatorLemmas
-pub mod GarblerLemmas
-pub mod MadeLemmas
-pub mod PartlyLemmas
