@@ -1,8 +1,11 @@
 //! The command `order`: writing a circuit with its gates in order of AND depth.
 
 ghost use Rattle.std.specs.Prelude.{◌≡◌, ◌≢◌, ℕ, List, IfOk, IfErr, OnOk, OnErr, IfSome, string_bytes};
+ghost use Rattle.gc_netlist.specs.Circuit.{Netlist};
+ghost use Rattle.gc_netlist.specs.Canon.{canonical_text};
+ghost use Rattle.gc_depth.specs.Order.{IsOrdered};
 ghost use Rattle.gc_disk.specs.Files.{HasFailed};
-ghost use Rattle.gc_command.specs.Order.{AnswersOrder, HasOrderFault, IsOrderedText};
+ghost use Rattle.gc_command.specs.Order.{AnswersOrder, HasOrderFault};
 ghost use Rattle.gc_command.specs.Wrote.{HasWritten, IsUnwritten, KeepsFiles};
 ghost use Rattle.gc_command.specs.Fault.{HasCause, HasWriteCause};
 
@@ -49,7 +52,8 @@ pub fn order<R, A: Allocator + Copy, F: Files, P: Progress>(
 
 /// The canonical text of a circuit with its gates in order of AND depth.
 fn ordered_text<A: Allocator + Copy>(alloc: A, circuit: Circuit<A>) -> Result<Vec<u8, A>, Memory>
-    ensures { IfOk result (λ text. IsOrderedText circuit text.items) }
+    ensures { IfOk result (λ text. (ordered : Netlist) × IsOrdered circuit ordered
+        × (text.items ≡ canonical_text ordered)) }
 {
     let ordered = order_by_depth(alloc, &circuit)?;
     drop(circuit);

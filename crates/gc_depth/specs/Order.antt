@@ -29,3 +29,9 @@ pub record IsSortedByRank (c d : Netlist) : Type 0 where
   pub end : ℕ
   pub below : All (λ g. rank_in c g < end) c.gates
   pub gates : d.gates ≡ by_rank (rank_in c) end c.gates
+
+-- d is c in order of AND depth: it has the same gates by rank, and computes the same.
+pub record IsOrdered (c d : Netlist) : Type 0 where
+  pub reordering : IsReordering c d
+  pub sorted : IsSortedByRank c d
+  pub same : ComputesSame c d

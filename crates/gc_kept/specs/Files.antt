@@ -17,6 +17,10 @@ use Rattle.gc_kept.specs.Garbling.{GarblingWith}
 abbrev pub IsFileAt : List ℕ → List ℕ → List ℕ → Type 0
 IsFileAt file old new = new ≡ file ++ drop (length file) old
 
+-- The buffer begins with the file, and this is its length.
+abbrev pub IsWholeFileAt : List ℕ → List ℕ → List ℕ → ℕ → Type 0
+IsWholeFileAt file old new written = IsFileAt file old new × (written ≡ length file)
+
 -- A buffer has too little room for a file of this length.
 abbrev pub HasRoomFault : ℕ → ℕ → KeptFault → Type 0
 HasRoomFault length_of room fault = (fault ≡ SmallBuffer) × (room < length_of)

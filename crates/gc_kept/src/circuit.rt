@@ -5,10 +5,12 @@ ghost use Rattle.sha2.specs.Sha256.{sha256};
 ghost use Rattle.gc_netlist.specs.Circuit.{IsLawful};
 ghost use Rattle.gc_netlist.specs.Canon.{canonical_text};
 ghost use Rattle.gc_netlist.specs.Spelling.{Spells};
+ghost use Rattle.gc_depth.specs.Order.{IsOrdered};
 ghost use Rattle.gc_kept.specs.Circuit.{HasCircuitTextFault};
 
 use crate::fault::KeptFault;
 use gc_circuit::Circuit;
+use gc_depth::order_by_depth;
 use std::alloc::{AllocError, Global};
 use std::marker::Model;
 use std::sync::Arc;
@@ -80,6 +82,18 @@ impl KeptCircuit {
     {
         let circuit = Circuit::read(alloc, text)?;
         let shared = Arc::new(alloc, Digested::new(circuit))?;
+        Ok(KeptCircuit { shared })
+    }
+
+    /// The circuit with its gates in order of AND depth, as [`order_by_depth`] puts them, and its digest.
+    pub fn ordered(&self, alloc: Global) -> Result<KeptCircuit, KeptFault>
+        ensures ok { IfOk result (IsOrdered self.now) }
+        ensures fault { IfErr result (λ fault. fault ≡ KeptFault.Memory) }
+    {
+        let Ok(ordered) = order_by_depth(alloc, self.circuit()) else {
+            return Err(KeptFault::Memory);
+        };
+        let shared = Arc::new(alloc, Digested::new(ordered))?;
         Ok(KeptCircuit { shared })
     }
 

@@ -1,10 +1,11 @@
 //! Writing files to the buffers of callers.
 
 ghost use Rattle.std.specs.Prelude.{◌≡◌, ◌≢◌, ◌≤◌, Some, length, slice_get, IfErr, OnOk, OnErr};
+ghost use Rattle.gc_netlist.specs.Canon.{canonical_text};
 ghost use Rattle.gc_file.specs.LabelFile.{label_file, label_parts_of};
 ghost use Rattle.gc_file.specs.Written.{IsWritten};
 ghost use Rattle.gc_file.specs.Honest.{IsFileSize, honest_parts_with, written_part};
-ghost use Rattle.gc_kept.specs.Files.{IsFileAt, HasRoomFault, HasWriteFault, IsDealtAt, HasDealtFault};
+ghost use Rattle.gc_kept.specs.Files.{IsFileAt, IsWholeFileAt, HasRoomFault, HasWriteFault, IsDealtAt, HasDealtFault};
 ghost use Rattle.gc_kept.specs.Files.{IsGarbledAt, HasFileFault};
 
 use crate::bits::read_bits;
@@ -54,6 +55,28 @@ fn copy_file(file: &[u8], buffer: &mut [u8], written: &mut usize) -> Result<(), 
 }
 
 impl KeptCircuit {
+    /// Writes the canonical text of the circuit, and reports the number of its bytes. It refuses a buffer that is too
+    /// small (61): then `written` is the size that is needed. After another fault it is as it was.
+    pub fn write_text(
+        &self,
+        alloc: Global,
+        buffer: &mut [u8],
+        written: &mut usize,
+    ) -> Result<(), KeptFault>
+        ensures ok { OnOk result
+            (IsWholeFileAt (canonical_text self.now) buffer.old buffer.new written.new) }
+        ensures fault { IfErr result
+            (HasWriteFault (canonical_text self.now) (length buffer.old) written.new) }
+        ensures unwritten { OnErr result (buffer.new ≡ buffer.old) }
+        ensures unreported { IfErr result (λ fault.
+            fault ≢ KeptFault.SmallBuffer → written.new ≡ written.old) }
+    {
+        match self.circuit().canon(alloc) {
+            Ok(text) => copy_file(&text, buffer, written),
+            Err(_) => Err(KeptFault::Memory),
+        }
+    }
+
     /// How many bytes the garbled file of a version has, for the circuit's garbling under any seed.
     pub fn garbled_size(&self, version: Version) -> u64
         ensures { IsFileSize version self.now result }

@@ -2,6 +2,7 @@
 use Rattle.std.specs.Prelude.{◌≢◌, ℕ, List}
 use Rattle.gc_netlist.specs.Circuit.{Netlist, IsLawful}
 use Rattle.gc_netlist.specs.Spelling.{Spells}
+use Rattle.gc_depth.specs.Order.{IsOrdered}
 use Rattle.gc_label.specs.Seed.{offset_of}
 use Rattle.gc_half.specs.Garbling.{GarblingParts, IsGarbled}
 use Rattle.gc_kept.specs.declared.fault.KeptFault.{KeptFault}
@@ -24,6 +25,12 @@ pub record HoldsCircuit (text : List ℕ) (slot : Slot) : Type 0 where
 -- C's pointer is to a handle of this circuit.
 abbrev pub HoldsShared : Netlist → Slot → Type 0
 HoldsShared c slot = Holds slot (Circuit c)
+
+-- C's pointer is to a handle of this circuit in order of AND depth.
+pub record HoldsOrdered (c : Netlist) (slot : Slot) : Type 0 where
+  pub ordered : Netlist
+  pub order : IsOrdered c ordered
+  pub holds : Holds slot (Circuit ordered)
 
 -- C's pointer is to a handle of the garbling of the circuit under the seed.
 pub record HoldsGarbling (c : Netlist) (seed : List ℕ) (slot : Slot) : Type 0 where

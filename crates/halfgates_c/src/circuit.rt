@@ -9,7 +9,7 @@ ghost use Rattle.gc_kept.specs.Circuit.{HasCircuitTextFault};
 ghost use Rattle.gc_kept.specs.Plain.{ArePlainOutputs, HasPlainBufferFault};
 ghost use Rattle.halfgates_c.specs.Answers.{Answers};
 ghost use Rattle.halfgates_c.specs.Holding.{OfCircuit};
-ghost use Rattle.halfgates_c.specs.Reading.{HoldsCircuit, HoldsShared};
+ghost use Rattle.halfgates_c.specs.Reading.{HoldsCircuit, HoldsOrdered, HoldsShared};
 ghost use Rattle.halfgates_c.specs.Numbers.{AreNumbers, Copies};
 
 use crate::code::{NULL_POINTER, OK, SMALL_BUFFER, code_of};
@@ -84,6 +84,37 @@ pub extern "C" fn halfgates_circuit_share(
     }
     on_held!(circuit, Circuit(circuit) => {
         code_of(share(alloc, circuit, other))
+    })
+}
+
+/// Puts the gates of a circuit in order, and hands out the circuit of these.
+fn order(alloc: Global, circuit: &KeptCircuit, slot: &mut Slot) -> Result<(), KeptFault>
+    ensures ok { OnOk result (HoldsOrdered circuit.now slot.new) }
+    ensures fault { IfErr result (λ fault. fault ≡ KeptFault.Memory) }
+    ensures kept { OnErr result (slot.new ≡ slot.old) }
+{
+    let ordered = circuit.ordered(alloc)?;
+    slot.hand_out(alloc, Held::Circuit(ordered))
+}
+
+/// The circuit with its gates in order of AND depth.
+#[unsafe(no_mangle)]
+pub extern "C" fn halfgates_circuit_order(
+    alloc: Global,
+    circuit: &mut Handle,
+    ordered: &mut Slot,
+) -> i32
+    requires ordered { Testable (as_mut_ptr ordered) }
+    ensures answer { OfCircuit circuit.old.held result (λ c.
+        Answers result (HoldsOrdered c ordered.new) (λ fault. fault ≡ KeptFault.Memory)) }
+    ensures back { circuit.new ≡ circuit.old }
+    ensures kept { result ≢ pos 0 → ordered.new ≡ ordered.old }
+{
+    if is_null(ordered) {
+        return NULL_POINTER;
+    }
+    on_held!(circuit, Circuit(circuit) => {
+        code_of(order(alloc, circuit, ordered))
     })
 }
 

@@ -3,9 +3,10 @@
 ghost use Rattle.std.specs.Prelude.{◌≡◌, ◌≢◌, MatchOption, pos, length};
 ghost use Rattle.core.specs.Ptr.{as_ptr, as_mut_ptr};
 ghost use denote.RawPtr.{Testable};
+ghost use Rattle.gc_netlist.specs.Canon.{canonical_text};
 ghost use Rattle.gc_file.specs.Honest.{IsFileSize};
 ghost use Rattle.gc_kept.specs.Version.{version_of};
-ghost use Rattle.gc_kept.specs.Files.{IsDealtAt, IsDealtFrom, IsGarbledAt, HasDealtFault, HasDealtFaultFrom, HasFileFault};
+ghost use Rattle.gc_kept.specs.Files.{IsDealtAt, IsDealtFrom, IsGarbledAt, IsWholeFileAt, HasDealtFault, HasDealtFaultFrom, HasFileFault, HasWriteFault};
 ghost use Rattle.gc_kept.specs.Labels.{IsReceivedAt, HasReceivedFault};
 ghost use Rattle.halfgates_c.specs.Answers.{Answers};
 ghost use Rattle.halfgates_c.specs.Holding.{OfCircuit, OfGarbling, circuit_of};
@@ -15,6 +16,30 @@ use crate::handle::{Handle, on_held};
 use crate::null::is_null;
 use gc_kept::version_of;
 use std::alloc::Global;
+
+/// Writes the canonical text of a circuit.
+#[unsafe(no_mangle)]
+pub extern "C" fn halfgates_circuit_text(
+    alloc: Global,
+    circuit: &mut Handle,
+    buffer: &mut [u8],
+    written: &mut usize,
+) -> i32
+    requires written { Testable (as_mut_ptr written) }
+    ensures answer { OfCircuit circuit.old.held result (λ c.
+        Answers result (IsWholeFileAt (canonical_text c) buffer.old buffer.new written.new)
+        (HasWriteFault (canonical_text c) (length buffer.old) written.new)) }
+    ensures back { circuit.new ≡ circuit.old }
+    ensures kept { result ≢ pos 0 → buffer.new ≡ buffer.old }
+    ensures unreported { result ≢ pos 0 → result ≢ pos 61 → written.new ≡ written.old }
+{
+    if is_null(written) {
+        return NULL_POINTER;
+    }
+    on_held!(circuit, Circuit(circuit) => {
+        code_of(circuit.write_text(alloc, buffer, written))
+    })
+}
 
 /// How many bytes the garbled file of a version has; 0 for a bad argument.
 #[unsafe(no_mangle)]

@@ -11,9 +11,9 @@ returns-clause-answers g c =
     (λ bytes circuit wrote. record {
       circuit = c.in_ok-circuit.circuit;
       read = circuit;
-      text = c.in_ok-text.text.items;
-      ordered = c.in_ok-text.ensures;
-      written = rw c.deref.ensures.value at wrote;
+      ordered = c.in_ok-text.ensures.0;
+      order = c.in_ok-text.ensures.1.0;
+      written = rw (c.deref.ensures.value, c.in_ok-text.ensures.1.1) at wrote;
     })
     c.in_ok-circuit.ensures.circuit
     (rw (c.read_circuit.ensures.same c.as_str.result.now)
