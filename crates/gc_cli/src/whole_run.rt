@@ -29,8 +29,9 @@ use std::thread::Threads;
 /// - [`DISHONEST`]: the lines of an audit are on standard output, of which the last is `dishonest`.
 /// - [`FAULT`]: the line `halfgates: fault CODE NAME` is on standard error, unless that can't be written. Nothing is on
 ///   standard output, and every file is as it was, unless printing there failed, which is the fault 51. It is 50 where
-///   FILE can't be read or isn't UTF-8, and 52 where there is no memory for its lines. Where the arguments or the
-///   console ask for it, a line that explains the fault of an order may follow.
+///   FILE can't be read or isn't UTF-8, and 52 where there is no memory for its lines: words that stand for themselves
+///   have only the faults of their order, and of printing. Where the arguments or the console ask for it, a line that
+///   explains the fault of an order may follow.
 /// - [`USAGE`]: what clap says of arguments that are no order is on standard error. So is what it says where memory ran
 ///   out, and that `--args-from` lacks FILE.
 ///
@@ -62,6 +63,12 @@ pub fn serve<R: Threads + Wait + Sync, F: Reread, O: Write, E: Write, P: Progres
         ⊎ EndsByRefusal (F.bytes files.old) (F.bytes files.new)
         (HasFailed (F.failures files.old) (F.failures files.new))
         (map string_bytes words.now)
+        console.old.out console.new.out console.old.err console.new.err }
+
+    ensures fault_words { StandForThemselves (map string_bytes words.now) → result ≡ FAULT
+        → EndsByFault (F.bytes files.old) (F.bytes files.new)
+        (HasFailed (F.failures files.old) (F.failures files.new))
+        (map string_bytes words.now) console.old.explains
         console.old.out console.new.out console.old.err console.new.err }
 
     // Arguments that neither are an order nor ask for a text, where there was memory to read them, or no file after
