@@ -40,6 +40,7 @@ pub struct Audited<A: Allocator> {
 /// Compares the garbled file and the label files of these names with what garbling the circuit of a file under a seed
 /// gives, and returns what it finds. The files are not trusted. One thread garbles and compares; another may
 /// hash meanwhile.
+#[inline(never)]
 pub fn audit<R: Threads + Wait + Sync, A: Allocator + Copy + Send + Sync, F: Files, P: Progress>(
     context: &Context<'_, R, A, P>,
     order: &AuditOrder,

@@ -19,6 +19,7 @@ use std::alloc::{AllocError, Allocator};
 use std::thread::Threads;
 
 /// Reads the circuit of a file, and returns the lines of its numbers and its digest.
+#[inline(never)]
 pub fn check<R: Threads, A: Allocator + Copy + Send + Sync, F: Files, P: Progress>(
     context: &Context<'_, R, A, P>,
     circuit: &str,

@@ -20,6 +20,7 @@ use std::alloc::Allocator;
 
 /// Writes the label file of the input value of this index, by the circuit of a file and a seed, and returns the line
 /// that states its bytes. A file in place of the label file is replaced at once, and stays as it is at a fault.
+#[inline(never)]
 pub fn deal<A: Allocator + Copy, F: Files>(
     alloc: A,
     order: &DealOrder,

@@ -37,6 +37,7 @@ type Given<A> = (Garbled<A>, Vec<LabelFile<A>, A>);
 
 /// Evaluates the circuit of a file from the garbled file and the label files of these names, with this many workers,
 /// and returns the lines of the output values that they decode to, in this form. The files are not trusted.
+#[inline(never)]
 pub fn eval<R: Threads + Wait + Sync, A: Allocator + Copy + Send + Sync, F: Files, P: Progress>(
     context: &Context<'_, R, A, P>,
     order: &EvalOrder,

@@ -31,6 +31,7 @@ use std::thread::Threads;
 
 /// Garbles the circuit of a file under a seed with this many workers, writes the garbled file, and returns the line
 /// that states its bytes. A file in place of the garbled file is replaced at once, and stays as it is at a fault.
+#[inline(never)]
 pub fn garble<R: Threads + Wait + Sync, A: Allocator + Copy + Send + Sync, F: Files, P: Progress>(
     context: &Context<'_, R, A, P>,
     order: &GarbleOrder,

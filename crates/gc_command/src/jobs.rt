@@ -26,6 +26,7 @@ use std::thread::Threads;
 /// Evaluates the circuit of a file with this many workers from each garbled file that the list of this name has, with
 /// the label files on its line, and returns the lines of the output values that they decode to, in this form. The files
 /// are not trusted.
+#[inline(never)]
 pub fn jobs<R: Threads + Sync, A: Allocator + Copy + Send + Sync, F: Files, P: Progress>(
     context: &Context<'_, R, A, P>,
     order: &JobsOrder,

@@ -56,6 +56,7 @@ impl<A: Allocator> Model for LabelLines<A> {
 /// Reads the circuit of a file, the seed and the values, garbles the circuit on one thread, and returns the lines of
 /// its set wires, from the first and at most as many as the order asks for: each wire's number, its zero label, its
 /// active label for the values, and its bit.
+#[inline(never)]
 pub fn labels<A: Allocator + Copy, F: Files>(
     alloc: A,
     order: &LabelsOrder,

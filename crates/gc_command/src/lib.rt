@@ -1,4 +1,6 @@
 //! The commands on circuits and files, each in a module of its name.
+//!
+//! No command is inlined: in one frame, those of all commands take more than 128 KiB of stack.
 #![tactic(auto)]
 
 pub mod audit;

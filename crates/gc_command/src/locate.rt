@@ -11,6 +11,7 @@ use gc_disk::Files;
 use std::alloc::{AllocError, Allocator};
 
 /// Reads the text of a file, and returns where its first fault is as a circuit, or the line `no fault`.
+#[inline(never)]
 pub fn locate<A: Allocator + Copy, F: Files>(
     alloc: A,
     circuit: &str,

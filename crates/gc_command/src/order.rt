@@ -22,6 +22,7 @@ use std::alloc::Allocator;
 
 /// Writes the canonical text of the circuit of a file, with its gates in order of AND depth, and returns the line that
 /// states its bytes. A file in place of the written one is replaced at once, and stays as it is at a fault.
+#[inline(never)]
 pub fn order<R, A: Allocator + Copy, F: Files, P: Progress>(
     context: &Context<'_, R, A, P>,
     order: &ByDepthOrder,

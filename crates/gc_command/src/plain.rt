@@ -16,6 +16,7 @@ use gc_order::PlainOrder;
 use std::alloc::Allocator;
 
 /// Evaluates the circuit of a file on the values, and returns the lines of its output values in this form.
+#[inline(never)]
 pub fn plain<A: Allocator + Copy, F: Files>(
     alloc: A,
     order: &PlainOrder,

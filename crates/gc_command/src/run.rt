@@ -33,6 +33,7 @@ type Input<A> = (Seed, Vec<Vec<bool, A>, A>);
 
 /// Garbles the circuit of a file under a seed with this many workers, deals the values, evaluates the circuit from the
 /// files of these, which it makes in memory, and returns the lines of the output values in this form.
+#[inline(never)]
 pub fn run<R: Threads + Wait + Sync, A: Allocator + Copy + Send + Sync, F: Files, P: Progress>(
     context: &Context<'_, R, A, P>,
     order: &RunOrder,

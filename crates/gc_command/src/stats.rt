@@ -13,6 +13,7 @@ use gc_disk::Files;
 use std::alloc::{AllocError, Allocator};
 
 /// Reads the circuit of a file, and returns the lines of its statistics.
+#[inline(never)]
 pub fn stats<A: Allocator + Copy, F: Files>(
     alloc: A,
     circuit: &str,
