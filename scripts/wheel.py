@@ -1,6 +1,6 @@
 #!/usr/bin/env python3
 # SPDX-License-Identifier: MIT OR Apache-2.0
-"""Writes the wheel of the package to a folder and prints its file name. python/_backend says what it holds.
+"""Writes the wheels of the package to a folder and prints their file names. python/_backend says what they hold.
 
   wheel.py FOLDER
 """
@@ -14,6 +14,6 @@ import backend  # noqa: E402
 if len(sys.argv) != 2:
     sys.exit("usage: wheel.py FOLDER")
 try:
-    print(backend.build_wheel(sys.argv[1]))
+    print(*(backend.build_wheel_for(machine, sys.argv[1]) for machine in backend.LIBRARIES), sep="\n")
 except OSError as error:
     sys.exit(f"wheel.py: {error}")

@@ -237,24 +237,6 @@ class Files(LibraryTest):
         for archive in LIB_DIR.rglob("libhalfgates.a"):
             self.assertEqual(names_in("-g", "--defined-only", archive), declared_names(), archive)
 
-    def test_what_they_need(self):
-        """The C library alone, of glibc 2.17 or earlier."""
-        for library in shared_libraries():
-            words = [tool("readelf"), "-dV", "--wide", library]
-            said = subprocess.run(words, capture_output=True, text=True, check=True).stdout
-            self.assertIn(f"Library soname: [{SONAME}]", said)
-            self.assertEqual(re.findall(r"Shared library: \[(.*)\]", said), ["libc.so.6"], library)
-            for version in re.findall(r"Name: GLIBC_([\d.]+)", said):
-                self.assertLessEqual(tuple(map(int, version.split("."))), (2, 17), library)
-
-    def test_hardening(self):
-        """Names are bound as a library is loaded, after which its tables are read-only. No stack is executable."""
-        for library in shared_libraries():
-            words = [tool("readelf"), "-ld", "--wide", library]
-            said = subprocess.run(words, capture_output=True, text=True, check=True).stdout
-            for it in ("GNU_RELRO", r"\(FLAGS\) .*BIND_NOW", r"GNU_STACK .* RW "):
-                self.assertRegex(said, it, library)
-
     def test_layout(self):
         self.run_built(SOURCES / "layout.c")
 

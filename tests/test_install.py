@@ -231,6 +231,7 @@ class InstallTest(unittest.TestCase):
         self.assertEqual(self.files(), {})
 
     def test_what_was_built_from_other_sources(self):
+        (self.top / "c").symlink_to(TOP / "c")
         shutil.copy2(TOP / "crates.txt", self.top)
         (self.top / "out").mkdir()
         (self.top / "out/halfgates").write_text("")
@@ -312,10 +313,17 @@ class Processors(unittest.TestCase):
             printed = subprocess.run(words, capture_output=True, text=True, check=True).stdout
             self.assertEqual("%ymm" in printed, name in newer, name)
 
-    @unittest.skipUnless(which("qemu-x86_64"), "there is no qemu-x86_64: the program for x86-64-v2 is not run as there")
-    def test_a_processor_without_avx(self):
-        words = "qemu-x86_64", "-cpu", "Nehalem", RELEASE / "halfgates", *ADD
-        self.assertEqual(run(*words), (0, "01\n", ""))
+    @unittest.skipUnless(which("qemu-x86_64"), "there is no qemu-x86_64: the programs are not run on older processors")
+    def test_older_processors(self):
+        """A program runs where the processor has all that its code uses, and otherwise says so as it starts."""
+        for name, processor, level in (
+            ("halfgates", "Nehalem", None),
+            ("halfgates", "core2duo", "x86-64-v2"),
+            ("v3/halfgates", "Nehalem", "x86-64-v3"),
+        ):
+            status, printed, error = run("qemu-x86_64", "-cpu", processor, RELEASE / name, *ADD)
+            self.assertEqual((status, printed), (127, "") if level else (0, "01\n"), name)
+            self.assertTrue(error.startswith(f"this machine lacks a feature of {level}" if level else ""), error)
 
 
 class ForLinkers(unittest.TestCase):

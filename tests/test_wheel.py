@@ -1,11 +1,13 @@
-"""The wheel for Python: the same files make the same wheel, and pip installs it into a new environment outside the
-repository, where the examples of docs/LIBRARY.md run.
+"""The wheels for Python: the same files make the same wheels, and pip installs the one for this machine into a new
+environment outside the repository, where the examples of docs/LIBRARY.md run.
 """
 import csv
 import hashlib
 import importlib.util
 import io
 import os
+import platform
+import re
 import shutil
 import subprocess
 import sys
@@ -20,15 +22,20 @@ from unittest import mock
 from library import LIB_DIR, LIBRARY, SONAME, demand_library
 from program import EXAMPLES, TOP
 from test_blocks import commands, outputs
+from test_linking import names_by_version, readelf
 
 SCRIPT = TOP / "scripts/wheel.py"
 V3 = Path("glibc-hwcaps/x86-64-v3", SONAME)
+
+# The libraries in the wheel for each machine, and the machine as readelf names it.
+HELD = {"x86_64": (Path(SONAME), V3), "aarch64": (Path("aarch64", SONAME),)}
+MACHINES = {"x86_64": "X86-64", "aarch64": "AArch64"}
 LICENSES = "LICENSE-APACHE", "LICENSE-MIT", "THIRD-PARTY.md"
 
 
 def fill(folder):
     """Lays a folder out as dist/lib. The library under test stands for one that isn't there."""
-    for name in (SONAME, V3):
+    for name in (name for names in HELD.values() for name in names):
         (folder / name).parent.mkdir(parents=True, exist_ok=True)
         shutil.copy(LIB_DIR / name if (LIB_DIR / name).is_file() else LIBRARY, folder / name)
 
@@ -55,36 +62,44 @@ class WheelTest(unittest.TestCase):
         cls.environment = {**os.environ, "HALFGATES_LIB_DIR": str(cls.folder / "lib")}
         for name in ("HALFGATES_LIBRARY", "PYTHONPATH", "PYTHONHOME"):
             cls.environment.pop(name, None)
-        cls.wheel = cls.make("wheel")
+        cls.wheels = cls.make("wheels")
+        cls.wheel = cls.wheels[platform.machine()]
 
     @classmethod
     def make(cls, name, **how):
-        """The wheel that the script writes to a new folder."""
+        """The wheels that the script writes to a new folder, by their machines."""
         (cls.folder / name).mkdir()
         done = run(sys.executable, SCRIPT, cls.folder / name, env=cls.environment, **how)
         assert (done.returncode, done.stderr) == (0, ""), done.stderr
-        return cls.folder / name / done.stdout.strip()
+        return {machine: cls.folder / name / file for machine, file in zip(HELD, done.stdout.splitlines())}
 
 
 class Files(WheelTest):
-    def test_the_same_files_make_the_same_wheel(self):
+    def test_the_same_files_make_the_same_wheels(self):
         again = self.make("again", cwd="/", preexec_fn=lambda: os.umask(0o077))
-        self.assertEqual(again.read_bytes(), self.wheel.read_bytes())
-        self.assertEqual(again.name, self.wheel.name)
+        for machine, wheel in self.wheels.items():
+            self.assertEqual(again[machine].read_bytes(), wheel.read_bytes())
+            self.assertEqual(again[machine].name, wheel.name)
 
-    def test_what_it_holds(self):
-        with zipfile.ZipFile(self.wheel) as wheel:
+    def test_what_they_hold(self):
+        for machine in self.wheels:
+            with self.subTest(machine=machine):
+                self.check_what_it_holds(machine)
+
+    def check_what_it_holds(self, machine):
+        file = self.wheels[machine]
+        with zipfile.ZipFile(file) as wheel:
             held = {it: wheel.read(it) for it in wheel.namelist()}
-        info = f"{self.wheel.name.partition('-py3-')[0]}.dist-info"
-        for name in (SONAME, V3):
-            self.assertEqual(held[f"halfgates/lib/{name}"], (self.folder / "lib" / name).read_bytes())
+        info = f"{file.name.partition('-py3-')[0]}.dist-info"
+        libraries = {f"halfgates/lib/{name}": (self.folder / "lib" / name).read_bytes() for name in HELD[machine]}
+        self.assertEqual({it: held[it] for it in held if it.startswith("halfgates/lib/")}, libraries)
         for name in LICENSES:
             self.assertEqual(held[f"{info}/licenses/{name}"], (TOP / name).read_bytes())
         for source in (*TOP.glob("python/halfgates/*.py"), TOP / "python/halfgates/py.typed"):
             self.assertEqual(held[f"halfgates/{source.name}"], source.read_bytes())
         about = message_from_bytes(held[f"{info}/WHEEL"])
-        self.assertEqual(about["Tag"], self.wheel.stem.split("-", 2)[2])
-        self.assertEqual(about["Tag"], "py3-none-manylinux_2_34_x86_64")
+        self.assertEqual(about["Tag"], file.stem.split("-", 2)[2])
+        self.assertEqual(about["Tag"], f"py3-none-manylinux_2_17_{machine}")
         metadata = message_from_bytes(held[f"{info}/METADATA"])
         self.assertEqual(f"{metadata['Name']}-{metadata['Version']}.dist-info", info)
         self.assertEqual(metadata["License-Expression"], "MIT OR Apache-2.0")
@@ -95,6 +110,18 @@ class Files(WheelTest):
         found = {path: about for path, *about in csv.reader(io.StringIO(record))}
         expected = {path: record_of(data) for path, data in held.items()}
         self.assertEqual(found, {**expected, f"{info}/RECORD": ["", ""]})
+
+    def test_tags(self):
+        """The libraries of a wheel are for the machine of its tag, and need no later glibc."""
+        if not all((LIB_DIR / name).is_file() for names in HELD.values() for name in names):
+            self.skipTest("the library under test is not that of a release, which has one for each tag")
+        for machine, file in self.wheels.items():
+            *version, tagged = re.search(r"manylinux_(\d+)_(\d+)_(\w+)\.whl", file.name).groups()
+            self.assertEqual(tagged, machine)
+            for name in HELD[machine]:
+                library = self.folder / "lib" / name
+                self.assertIn(MACHINES[machine], readelf("-h", library), name)
+                self.assertLessEqual(max(names_by_version(library)), tuple(map(int, version)), name)
 
     def test_without_a_library(self):
         environment = {**self.environment, "HALFGATES_LIB_DIR": "/nowhere"}
@@ -132,7 +159,8 @@ class Installed(WheelTest):
         return [Path(it) for it in done.stdout.splitlines()]
 
     def test_the_examples(self):
-        self.install(self.wheel)
+        """pip takes the wheel for this machine."""
+        self.install("--find-links", self.wheel.parent, "halfgates")
         package, library = self.installed()
         self.assertIn(self.venv.resolve(), package.resolve().parents)
         self.assertIn(package.parent, library.parents)
@@ -147,7 +175,7 @@ class Installed(WheelTest):
         self.assertEqual(printed[1:], [it for _, it in blocks])
 
     def test_the_sources(self):
-        """They install the files of the wheel."""
+        """They install the files of the wheel for this machine."""
         self.install(TOP / "python")
         package, _ = self.installed()
         with zipfile.ZipFile(self.wheel) as wheel:

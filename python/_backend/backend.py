@@ -1,14 +1,15 @@
 # SPDX-License-Identifier: MIT OR Apache-2.0
 """The build backend of the package (PEP 517, PEP 660). It needs the standard library alone.
 
-A wheel holds the package and both shared libraries of a folder laid out as dist/lib: the folder that HALFGATES_LIB_DIR
-names, or dist/lib of this repository. The same files make the same wheel, byte for byte.
+A wheel holds the package and the shared libraries for one kind of processor, of a folder laid out as dist/lib: the
+folder that HALFGATES_LIB_DIR names, or dist/lib of this repository. The same files make the same wheel, byte for byte.
 """
 
 import ast
 import base64
 import hashlib
 import os
+import platform
 import re
 import zipfile
 from pathlib import Path
@@ -17,10 +18,12 @@ from typing import Dict
 PYTHON = Path(__file__).resolve().parents[1]
 TOP = PYTHON.parent
 
-# The libraries need glibc 2.17 and x86-64-v2. pip has no tag for such processors; distributions that ask for them begin
-# with glibc 2.34.
-PLATFORM = "manylinux_2_34_x86_64"
-LIBRARIES = "libhalfgates.so.0", "glibc-hwcaps/x86-64-v3/libhalfgates.so.0"
+# The libraries for each machine. They need glibc 2.17, and on x86_64 a processor of x86-64-v2, which no tag says.
+LIBRARIES = {
+    "x86_64": ("libhalfgates.so.0", "glibc-hwcaps/x86-64-v3/libhalfgates.so.0"),
+    "aarch64": ("aarch64/libhalfgates.so.0",),
+}
+GLIBC = "2_17"
 LICENSES = "LICENSE-APACHE", "LICENSE-MIT", "THIRD-PARTY.md"
 
 # The earliest time that a zip file can name.
@@ -34,12 +37,19 @@ class UnsupportedOperation(Exception):
 
 
 def build_wheel(wheel_directory, config_settings=None, metadata_directory=None) -> str:
-    """Writes the wheel to a folder and returns its file name."""
+    """Writes the wheel for this machine to a folder and returns its file name."""
+    machine = platform.machine()
+    if machine not in LIBRARIES:
+        raise UnsupportedOperation(f"there is no library for {machine}")
+    return build_wheel_for(machine, wheel_directory)
+
+
+def build_wheel_for(machine: str, wheel_directory) -> str:
     package = PYTHON / "halfgates"
     sources = sorted([*package.glob("*.py"), package / "py.typed"])
     files = {f"halfgates/{it.name}": it.read_bytes() for it in sources}
-    files.update({f"halfgates/lib/{it}": read_library(it) for it in LIBRARIES})
-    return write_wheel(wheel_directory, files, PLATFORM)
+    files.update({f"halfgates/lib/{it}": read_library(it) for it in LIBRARIES[machine]})
+    return write_wheel(wheel_directory, files, f"manylinux_{GLIBC}_{machine}")
 
 
 def build_editable(wheel_directory, config_settings=None, metadata_directory=None) -> str:
