@@ -29,6 +29,8 @@ mod sleepers;
 #[cfg(test)]
 mod store_growth;
 #[cfg(test)]
+mod stores;
+#[cfg(test)]
 mod ways;
 #[cfg(test)]
 mod workers;
