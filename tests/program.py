@@ -4,6 +4,7 @@ The program is the one that the environment variable HALFGATES names, or else th
 runs. What lies in vectors/ and examples/ is imported by its name, after this module.
 """
 import os
+import shutil
 import subprocess
 import sys
 import tempfile
@@ -116,6 +117,10 @@ def script(*words, folder=EXAMPLES, **how):
     return subprocess.run(words, capture_output=True, check=False, **how).returncode
 
 
+# The number of a user who may not read or write what is closed to all.
+NOBODY = 65534
+
+
 class ProgramTest(TestCase):
     """A test that runs the program in a folder of its own, over files there."""
 
@@ -140,6 +145,17 @@ class ProgramTest(TestCase):
 
     def bytes_of(self, name):
         return (self.folder / name).read_bytes()
+
+    def as_a_user(self):
+        """How the program runs as a user who isn't root. Where root runs the tests, that is another user, who has the
+        folder and a copy of the program there.
+        """
+        if os.geteuid() != 0:
+            return {}
+        program = shutil.copy(PROGRAM, self.folder)
+        for path in self.folder, *self.folder.iterdir():
+            os.chown(path, NOBODY, NOBODY)
+        return {"executable": program, "user": NOBODY, "group": NOBODY, "extra_groups": []}
 
     def run_program(self, *words, **how):
         """The status, and what the program prints on standard output and on standard error."""

@@ -121,6 +121,9 @@ CIRCUITS = [
 
 # Garbled files and label files with a fault, and what is said of them after the file's name.
 BIG = (33554433).to_bytes(4, "little")
+# One row pair, nine outputs, and so two decode bytes.
+ROWS = bristol.read_circuit(b"1 11\n1 10\n1 9\n2 1 0 1 10 AND")
+ROWS_1, ROWS_2 = (reference.garbled_file(ROWS, reference.garble(ROWS, bytes(32)), it) for it in (1, 2))
 GARBLED_FILES = [
     (b"HGARBLX", "30 BadMagic", "byte 6: a garbled file begins with HGARBLE1 or HGARBLE2"),
     (GARBLED[:60], "31 Truncated", "byte 60: the file ends too early"),
@@ -145,6 +148,31 @@ GARBLED_FILES = [
         "35 BadTrailer",
         "byte 81: the trailer isn't the SHA-256 of the bytes before it",
     ),
+    (
+        ROWS_2[:40] + 2 * BIG,
+        "33 CountTooLarge",
+        "byte 40: a garbled file has at most 16777216 row pairs and 33554432 outputs",
+    ),
+    *(
+        (
+            sealed(data[:81] + b"\2" + data[82:-32]),
+            "34 SpareBits",
+            "byte 81: a bit of the last decode byte is set that belongs to no output",
+        )
+        for data in (ROWS_1, ROWS_2)
+    ),
+    *(
+        (data + b"xy", "32 Trailing", f"byte {end}: bytes follow the end of the file")
+        for data, end in ((ROWS_1, 114), (ROWS_2, 402))
+    ),
+    *(
+        (
+            data[:-1] + bytes([data[-1] ^ 1]),
+            "35 BadTrailer",
+            f"byte {end - 32}: the trailer isn't the SHA-256 of the bytes before it",
+        )
+        for data, end in ((ROWS_1, 114), (ROWS_2, 402))
+    ),
 ]
 LABEL_FILES = [
     (GARBLED, "30 BadMagic", "byte 1: a label file begins with HLABELS1"),
@@ -155,6 +183,7 @@ LABEL_FILES = [
         "33 CountTooLarge",
         "byte 12: a label file has at most 33554432 labels",
     ),
+    (label_file(1, bytes(16), bytes(16)) + b"xy", "32 Trailing", "byte 48: bytes follow the end of the file"),
 ]
 
 # Files of a job that don't fit, by the name of the one that is another, and what is said of them.
@@ -187,6 +216,12 @@ BINDINGS = [
         "43 WrongWidth",
         "b: it has 2 labels, and 1 are expected for value 1, counted from 0",
     ),
+    (
+        "b",
+        label_file(0, bytes(16), bytes(16)),
+        "43 WrongWidth",
+        "b: it has 2 labels, and 1 are expected for value 0, counted from 0",
+    ),
     ("b", LABELS[0], "44 DoubleValue", "b: it is a second file for value 0, counted from 0"),
 ]
 
@@ -204,6 +239,12 @@ SEEDS = [
 ]
 
 
+def explained(fault, line):
+    """The ending of a run with this fault, which this line explains."""
+    status, out, err = fails(fault)
+    return status, out, f"{err}halfgates: {line}\n"
+
+
 class Explain(ProgramTest):
     def setUp(self):
         super().setUp()
@@ -213,11 +254,11 @@ class Explain(ProgramTest):
         self.put("b", LABELS[1])
         self.put("list", "\ng a b\n")
 
-    def assert_explained(self, fault, line, *words):
+    def assert_explained(self, fault, line, *words, **how):
         """The command ends with this fault, and explains it by this line."""
-        status, out, err = fails(fault)
-        self.assert_ends((status, out, err), *words)
-        self.assert_ends((status, out, f"{err}halfgates: {line}\n"), words[0], "--explain", *words[1:])
+        self.assertEqual(self.run_program(*words, **how), fails(fault), words)
+        ending = self.run_program(words[0], "--explain", *words[1:], **how)
+        self.assertEqual(ending, explained(fault, line), words)
 
     def test_circuits(self):
         for text, fault, line in CIRCUITS:
@@ -267,6 +308,18 @@ class Explain(ProgramTest):
             "deal", "c.txt", SEED, "2", "0", "out",
         )
 
+    def test_arguments_from_a_file(self):
+        """The file of the arguments is none of the files of the order."""
+        self.put("eval", "--explain\nc.txt\ng\na\nb\n")
+        self.put("jobs", "--explain\nc.txt\nlist\n")
+        for name, (data, fault, line) in ("g", GARBLED_FILES[0]), ("b", LABEL_FILES[0]):
+            old = self.bytes_of(name)
+            self.put(name, data)
+            line = f"{name}: {line}"
+            self.assert_ends(explained(fault, line), "eval", "--args-from", "eval")
+            self.assert_ends(explained(fault, f"{line} (line 2 of list)"), "jobs", "--args-from", "jobs")
+            self.put(name, old)
+
     def test_output_labels(self):
         self.put("b", label_file(1, bytes(16)))
         line = "doesn't recognise the label of output wire 0, counted from 0"
@@ -282,6 +335,14 @@ class Explain(ProgramTest):
             self.assert_explained(fault, line, "plain", "c.txt", "1", text)
             self.assert_explained(fault, line, "labels", "c.txt", SEED, "1", text)
             self.assert_explained(fault, line, "deal", "c.txt", SEED, "1", text, "out")
+        self.put("byte.txt", "0 8\n1 8\n1 8\n")
+        line = "value 0, counted from 0, has length 1 after x, in place of 2; its width is 8"
+        self.assert_explained("16 WrongLength", line, "plain", "byte.txt", "x0")
+        self.put("most.txt", f"0 256\n256{256 * ' 1'}\n1 256\n")
+        line = "value 255, counted from 0, has a character that is neither 0 nor 1"
+        self.assert_explained("15 BadDigit", line, "plain", "most.txt", *255 * "1", "2")
+        line = "the circuit has 256 input values, and the number of values is 255"
+        self.assert_explained("14 WrongCount", line, "plain", "most.txt", *255 * "1")
         line = "the circuit has 2 input values, and the number of values is 1"
         self.assert_explained("14 WrongCount", line, "run", "c.txt", SEED, "1")
         self.assert_explained("14 WrongCount", line, "plain", "c.txt", "1")
@@ -306,21 +367,23 @@ class Explain(ProgramTest):
     def test_files_that_cannot_be_read(self):
         self.put("closed", "")
         (self.folder / "closed").chmod(0)
-        causes = [("no_file", "there is no such file or directory"), (".", "it is a directory")]
-        if os.geteuid() != 0:
-            causes.append(("closed", "permission is denied"))
-        fault = "50 CannotRead"
+        causes = [
+            ("no_file", "there is no such file or directory"),
+            (".", "it is a directory"),
+            ("closed", "permission is denied"),
+        ]
+        fault, user = "50 CannotRead", self.as_a_user()
         for name, cause in causes:
             line = f"{name}: the file can't be read: {cause}"
             for command, words in COMMANDS.items():
-                self.assert_explained(fault, line, command, name, *words)
-            self.assert_explained(fault, line, "locate", name)
+                self.assert_explained(fault, line, command, name, *words, **user)
+            self.assert_explained(fault, line, "locate", name, **user)
             for files in (name, "a", "b"), ("g", name, "b"), ("g", "a", name):
-                self.assert_explained(fault, line, "eval", "c.txt", *files)
-                self.assert_explained(fault, line, "audit", "c.txt", SEED, *files)
+                self.assert_explained(fault, line, "eval", "c.txt", *files, **user)
+                self.assert_explained(fault, line, "audit", "c.txt", SEED, *files, **user)
                 self.put("list", "g a b\n\n" + " ".join(files))
-                self.assert_explained(fault, f"{line} (line 3 of list)", "jobs", "c.txt", "list")
-            self.assert_explained(fault, line, "jobs", "c.txt", name)
+                self.assert_explained(fault, f"{line} (line 3 of list)", "jobs", "c.txt", "list", **user)
+            self.assert_explained(fault, line, "jobs", "c.txt", name, **user)
 
     def test_a_list_from_a_pipe(self):
         """The list can't be read again, and so no line is named."""

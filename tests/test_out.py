@@ -1,8 +1,11 @@
 """The file OUT of `garble` and `deal`: names that are refused, and that it is replaced at once."""
+import ctypes
 import os
+import platform
 import resource
 import signal
 import stat
+import struct
 import threading
 import unittest
 from pathlib import Path
@@ -27,6 +30,21 @@ def small_files():
     """Files can't grow beyond 100 bytes, which is a disk that fills up."""
     signal.signal(signal.SIGXFSZ, signal.SIG_IGN)
     resource.setrlimit(resource.RLIMIT_FSIZE, (100, 100))
+
+
+# Numbers of calls of the system, by the machine.
+FCHMOD = {"x86_64": 91, "aarch64": 52}
+RENAME = {"x86_64": 82, "aarch64": 38}
+
+
+def refuse(calls):
+    """The system permits this call no more: a filter of four instructions refuses it."""
+    refused, allowed, libc = 0x50001, 0x7FFF0000, ctypes.CDLL(None)
+    lines = (0x20, 0, 0, 0), (0x15, 0, 1, calls[platform.machine()]), (6, 0, 0, refused), (6, 0, 0, allowed)
+    code = ctypes.create_string_buffer(b"".join(struct.pack("HBBI", *line) for line in lines))
+    program = struct.pack("HP", len(lines), ctypes.addressof(code))
+    no_new_privileges, filter_calls = libc.prctl(38, 1, 0, 0, 0), libc.prctl(22, 2, program)
+    assert (no_new_privileges, filter_calls) == (0, 0)
 
 
 class Out(ProgramTest):
@@ -82,6 +100,16 @@ class Out(ProgramTest):
         self.assertEqual(self.bytes_of("g"), b"old")
         self.assertEqual(self.names(), ["c.txt", "g"])
 
+    @unittest.skipUnless(platform.machine() in RENAME, "the numbers of calls aren't known")
+    def test_a_new_file_that_is_refused(self):
+        """A new file that can't have the permissions or the name of the old one is removed."""
+        self.put("g", "old")
+        for calls, out in (FCHMOD, "g"), (RENAME, "g"), (RENAME, "new"):
+            ending = self.run_program(*WRITERS[0], out, preexec_fn=lambda: refuse(calls))
+            self.assertEqual(ending, UNWRITTEN)
+            self.assertEqual(self.bytes_of("g"), b"old")
+            self.assertEqual(self.names(), ["c.txt", "g"])
+
     def test_a_fault(self):
         self.put("g", "old")
         self.assert_fault("22 BadWorkers", *WRITERS[0], "g", "--workers", 0)
@@ -97,6 +125,14 @@ class Out(ProgramTest):
             self.assertTrue((self.folder / "link").is_symlink())
         self.assertEqual(os.listdir(self.folder / "folder"), ["g"])
 
+    def test_links_in_other_folders(self):
+        """A link leads on from the folder that it is in."""
+        self.put("g", "old")
+        (self.folder / "folder").mkdir()
+        (self.folder / "folder/link").symlink_to("g")
+        self.assert_writes(GARBLED, "folder/g", *WRITERS[0], "folder/link")
+        self.assertEqual(self.bytes_of("g"), b"old")
+
     def test_a_link_to_itself(self):
         (self.folder / "link").symlink_to("link")
         self.assertEqual(self.run_program(*WRITERS[0], "link"), UNWRITTEN)
@@ -108,11 +144,10 @@ class Out(ProgramTest):
         self.assertEqual(self.bytes_of(".halfgates-0.tmp"), b"kept")
         self.assertEqual(self.names(), [".halfgates-0.tmp", "c.txt", "g"])
 
-    @unittest.skipIf(os.geteuid() == 0, "root may write each file")
     def test_a_file_that_is_read_only(self):
         self.put("g", "old")
         (self.folder / "g").chmod(0o400)
-        self.assertEqual(self.run_program(*WRITERS[0], "g"), UNWRITTEN)
+        self.assertEqual(self.run_program(*WRITERS[0], "g", **self.as_a_user()), UNWRITTEN)
         self.assertEqual(self.bytes_of("g"), b"old")
 
     def test_a_fifo(self):

@@ -121,6 +121,19 @@ class Progress(ProgramTest):
                 outcome.result()
         self.assertEqual(taken, [data])
 
+    def test_the_line_is_drawn_again(self):
+        """Within a second and a half it is drawn twice more, and tells another second."""
+        os.mkfifo(self.folder / "slow")
+
+        def go_on():
+            time.sleep(1.5)
+            self.put("slow", FULL_ADDER)
+
+        _, _, shown = self.on_terminal(go_on, "check", "slow")
+        seconds = re.findall("([0-9]+) s", shown)
+        self.assertGreater(len(seconds), 2, shown)
+        self.assertGreater(len(set(seconds)), 1, shown)
+
     def test_a_fault_stands_alone(self):
         """The line of progress is gone before the fault is printed, and explained, as it is on a terminal."""
         os.mkfifo(self.folder / "slow")

@@ -1,6 +1,6 @@
 //! Tests of banks: what the calls of two seats that take turns return, and that none of them allocates.
 
-ghost use Rattle.std.specs.Prelude.{◌≡◌, ◌<◌, length, IfOk};
+ghost use Rattle.std.specs.Prelude.{◌≡◌, ◌<◌, length, All, IfOk};
 ghost use Rattle.gc_bank.specs.Seats.{IsSeatOf, IsInside, view, round_of, jobs_on};
 
 use crate::boards::one_seat;
@@ -12,6 +12,7 @@ use gc_job::Job;
 use gc_label::Label;
 use gc_rounds::{Entry, MAX_JOBS, Reopening};
 use gc_steps::Answer;
+use gc_workers::CloseRefused;
 use std::alloc::{Allocator, Global};
 use std::test::Fail;
 
@@ -212,6 +213,49 @@ fn take_turns(alloc: Global, jobs: &[Job]) -> Result<(), Fail> {
 #[test]
 fn two_seats_take_turns(rt: HostRuntime) -> Result<(), Fail> {
     on_three_jobs(rt.alloc(), |jobs| take_turns(rt.alloc(), jobs))
+}
+
+/// The banks and the seats that a refused close gives back.
+fn given_back<'j, 'c>(
+    banks: Banks<'j, 'c>,
+    seats: Vec<BankSeat>,
+) -> Result<(Banks<'j, 'c>, Vec<BankSeat>), Fail>
+    requires { All (IsSeatOf banks) seats.items }
+    ensures banks { IfOk result (λ b. b.0 ≡ banks.entry) }
+    ensures seats { IfOk result (λ b. b.1 ≡ seats) }
+{
+    match banks.close(seats) {
+        Ok(_) => Err(Fail::new("a seat is missing or inside")),
+        Err(CloseRefused { board, seats }) => Ok((board, seats)),
+    }
+}
+
+/// Banks are closed neither while one of their two seats is inside a round nor without it. With both outside they are,
+/// and what it made is counted.
+fn close_at_last(alloc: Global, jobs: &[Job]) -> Result<(), Fail> {
+    let (banks, mut one, two) = two_seats(alloc, jobs)?;
+    called(&banks, jobs, &mut one, Call::Enter(1));
+    called(&banks, jobs, &mut one, Call::Step(0));
+    let mut seats = Vec::new(alloc);
+    seats.push(two)?;
+    seats.push(one)?;
+    let (banks, mut seats) = given_back(banks, seats)?;
+    let Some(mut one) = seats.pop() else {
+        return Err(Fail::new("both seats are given back"));
+    };
+    equal((seats.len(), one.inside(), one.made()), (1, Some(1), 1))?;
+    called(&banks, jobs, &mut one, Call::Leave);
+    let (banks, mut seats) = given_back(banks, seats)?;
+    seats.push(one)?;
+    let Ok(made) = banks.close(seats) else {
+        return Err(Fail::new("both seats are outside"));
+    };
+    equal(made, 1)
+}
+
+#[test]
+fn a_seat_is_inside_or_missing(rt: HostRuntime) -> Result<(), Fail> {
+    on_three_jobs(rt.alloc(), |jobs| close_at_last(rt.alloc(), jobs))
 }
 
 /// Opens banks over this memory, has two seats make the calls of a script, and closes them. It returns how

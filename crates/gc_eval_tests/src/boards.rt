@@ -14,7 +14,7 @@ use gc_fixtures::refusing::Refusing;
 use gc_job::{EvalFault, Job, evaluate};
 use gc_label::Label;
 use gc_steps::Answer;
-use gc_workers::OpenFault;
+use gc_workers::{CloseRefused, OpenFault};
 use std::alloc::{Allocator, Global};
 use std::test::Fail;
 use std::thread;
@@ -171,6 +171,47 @@ fn closed<'j, 'c>(board: EvalBoard<'j, 'c>, seats: Vec<EvalSeat>) -> Result<Acti
         return Err(Fail::new("all seats are there"));
     };
     Ok(active)
+}
+
+/// The board and the seats that a refused close gives back.
+fn given_back<'j, 'c>(
+    board: EvalBoard<'j, 'c>,
+    seats: Vec<EvalSeat>,
+) -> Result<(EvalBoard<'j, 'c>, Vec<EvalSeat>), Fail>
+    requires { All (IsSeatOf board) seats.items }
+    ensures board { IfOk result (λ b. b.0 ≡ board.entry) }
+    ensures seats { IfOk result (λ b. b.1 ≡ seats) }
+{
+    match board.close(seats) {
+        Ok(_) => Err(Fail::new("a seat is missing")),
+        Err(CloseRefused { board, seats }) => Ok((board, seats)),
+    }
+}
+
+/// A board without one of its two seats isn't closed. With both it is, and what the other one made is done.
+fn close_at_last(alloc: Global, job: &Job) -> Result<(), Fail> {
+    if job.circuit().gates() == 0 {
+        return Err(Fail::new("there is a gate"));
+    }
+    let (board, mut one, two) = two_seats(alloc, job)?;
+    let is_made = made_label(board.step(&mut one, 0)).is_some();
+    let mut seats = Vec::new(alloc);
+    seats.push(one)?;
+    let (board, mut seats) = given_back(board, seats)?;
+    let back = seats.len();
+    seats.push(two)?;
+    let active = closed(board, seats)?;
+    equal((is_made, back, active.done()), (true, 1, 1))
+}
+
+#[test]
+fn a_seat_is_missing(rt: HostRuntime) -> Result<(), Fail> {
+    on_job(
+        rt.alloc(),
+        FULL_ADDER,
+        &ADDENDS,
+        |job| close_at_last(rt.alloc(), job),
+    )
 }
 
 /// A board with one seat.

@@ -1,7 +1,7 @@
 //! Tests of the evaluation of lists of jobs: the results are those of one thread, and the threads are really
 //! at work.
 
-use crate::fixtures::on_two_jobs;
+use crate::fixtures::{on_three_jobs, on_two_jobs};
 use gc_bank::{evaluate_jobs, one_circuit};
 use gc_fixtures::circuits::{and_chains, many_ands};
 use gc_fixtures::compare::equal;
@@ -101,6 +101,12 @@ fn gates_of_jobs_are_reported(rt: HostRuntime) -> Result<(), Fail> {
         )?;
     }
     Ok(())
+}
+
+/// Of three jobs one worker evaluates all, two workers two and one, and three of 64 a job each.
+#[test]
+fn no_more_workers_than_asked_for(rt: HostRuntime) -> Result<(), Fail> {
+    on_three_jobs(rt.alloc(), |jobs| are_reported(&rt, jobs))
 }
 
 /// Two workers evaluate a job each, of two on 2,000 independent AND gates; two of three step the gates of both jobs,

@@ -4,11 +4,12 @@ ghost use Rattle.std.specs.Prelude.{◌≡◌};
 ghost use Rattle.gc_store.specs.Account.{IsForStore};
 ghost use Rattle.gc_workers.specs.declared.TheConstants.{MAX_WORKERS};
 
-use gc_circuit::Circuit;
+use gc_circuit::{Circuit, Operation};
 use gc_fixtures::circuits::{FULL_ADDER, NO_GATES, and_chains, many_ands, mixed_chains};
 use gc_fixtures::files::zero_seed;
 use gc_half::garble_one_thread;
-use gc_store::Store;
+use gc_label::{Seed, input_label, offset};
+use gc_store::{Sealed, Store, Tally, Task};
 use gc_work::garble;
 use gc_workers::{Gatehouse, MAX_WORKERS};
 use std::alloc::{Allocator, Global};
@@ -81,4 +82,34 @@ pub(crate) fn open<L: Ledger, A: Allocator + Copy>(alloc: A, ledger: Blank) -> O
 {
     let circuit = Circuit::read(alloc, FULL_ADDER.as_bytes()).ok()?;
     Store::<L, A>::open(alloc, ledger, circuit, zero_seed()).ok()
+}
+
+/// Claims a gate, and returns it.
+pub(crate) fn claim_gate<L: Ledger, A: Allocator>(store: &mut Store<L, A>) -> Option<u32> {
+    Some(store.claim()?.gate)
+}
+
+/// Claims and finishes this many gates, one after another. None: one isn't ready, or is refused.
+pub(crate) fn finish_gates<L: Ledger, A: Allocator>(
+    store: &mut Store<L, A>,
+    tally: &mut Tally<L>,
+    gates: u32,
+) -> Option<()> {
+    for _gate in 0..gates {
+        let task = store.claim()?;
+        store.finish(Sealed::make(task), tally).ok()?;
+    }
+    Some(())
+}
+
+/// The sealed task of a gate that is an XOR of the input wires 0 and 2, as gate 0 of the full adder is.
+pub(crate) fn stranger(seed: &Seed, gate: u32) -> Sealed {
+    Sealed::make(Task {
+        gate,
+        operation: Operation::Xor(0, 2),
+        and_number: 0,
+        offset: offset(seed),
+        first: input_label(seed, 0),
+        second: input_label(seed, 2),
+    })
 }

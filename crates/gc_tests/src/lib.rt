@@ -25,6 +25,8 @@ mod sleepers;
 #[cfg(test)]
 mod store_growth;
 #[cfg(test)]
+mod stores;
+#[cfg(test)]
 mod ways;
 #[cfg(test)]
 mod workers;

@@ -1,13 +1,15 @@
 //! Tests of garbled files that come in pieces, and of sinks and sources that fail.
 
+ghost use Rattle.std.specs.Prelude.{◌≤◌, length};
+
 use crate::fixtures::read;
 use gc_file::{
-    FileFault, GarbledReader, InSource, MemSource, OutSink, Sink, Source, TakeFault, Version,
-    WriteFault, read_garbled_from,
+    FileFault, Garbled, GarbledReader, InSource, MemSource, OutSink, Sink, Source, TakeFault,
+    Version, WriteFault, read_garbled, read_garbled_from,
 };
 use gc_fixtures::circuits::AND;
 use gc_fixtures::compare::equal;
-use gc_fixtures::files::{and_file, write};
+use gc_fixtures::files::{Written, and_file, write};
 use gc_fixtures::refusing::Refusing;
 use std::alloc::{Allocator, Global};
 use std::io::{self, ErrorKind, Read, Write};
@@ -20,23 +22,47 @@ pub(crate) fn flip(bytes: &mut [u8], bit: usize) {
     }
 }
 
-/// The fault of a file that is read byte by byte.
-fn fault_by_bytes<A: Allocator + Copy>(heap: A, file: &[u8]) -> Option<FileFault> {
-    let mut reader = GarbledReader::new(heap);
-    for byte in file {
-        if let Err(fault) = reader.feed(&[*byte]) {
-            return Some(fault);
-        }
-    }
-    reader.end().err()
+/// Whether both hold the same.
+fn same(one: &Garbled, other: &Garbled) -> bool {
+    one.version() == other.version()
+        && one.digest() == other.digest()
+        && one.rows() == other.rows()
+        && one.decode_bits() == other.decode_bits()
+        && one.entries() == other.entries()
 }
 
-/// A file is read byte by byte where there is memory.
+/// Reads a file that is cut in two at this place.
+fn read_in_two(alloc: Global, file: &[u8], place: usize) -> Result<Garbled, FileFault>
+    requires { place ≤ length file.now }
+{
+    let (first, rest) = file.split_at(place);
+    let mut reader = GarbledReader::new(alloc);
+    reader.feed(first)?;
+    reader.feed(rest)?;
+    reader.end()
+}
+
+/// Reads a file byte by byte.
+fn read_by_bytes<A: Allocator + Copy>(heap: A, file: &[u8]) -> Result<Garbled<A>, FileFault> {
+    let mut reader = GarbledReader::new(heap);
+    for byte in file {
+        reader.feed(&[*byte])?;
+    }
+    reader.end()
+}
+
+/// The same file is read byte by byte, in two pieces wherever it is cut, and in one.
 #[test]
 fn of_a_file(rt: HostRuntime) -> Result<(), Fail> {
+    let alloc = rt.alloc();
     for version in [Version::One, Version::Two] {
-        let file = and_file(rt.alloc(), version)?;
-        equal(fault_by_bytes(rt.alloc(), &file), None)?;
+        let file = and_file(alloc, version)?;
+        let whole = read_garbled(alloc, &file)?;
+        equal(same(&read_by_bytes(alloc, &file)?, &whole), true)?;
+        for place in 0..=file.len() {
+            let found = same(&read_in_two(alloc, &file, place)?, &whole);
+            equal((place, found), (place, true))?;
+        }
     }
     Ok(())
 }
@@ -52,7 +78,7 @@ fn with_a_fault(rt: HostRuntime) -> Result<(), Fail> {
     ] {
         let mut file = and_file(rt.alloc(), Version::One)?;
         flip(&mut file, bit);
-        equal(fault_by_bytes(rt.alloc(), &file), Some(fault))?;
+        equal(read_by_bytes(rt.alloc(), &file).err(), Some(fault))?;
     }
     Ok(())
 }
@@ -69,23 +95,31 @@ pub(crate) const FORGED_HEADER: &str = concat!(
 fn of_a_forged_header(rt: HostRuntime) -> Result<(), Fail> {
     let heap = Refusing::always(rt.alloc());
     let header = hex::decode(rt.alloc(), FORGED_HEADER)?;
-    let fault = fault_by_bytes(&heap, &header);
+    let fault = read_by_bytes(&heap, &header).err();
     equal((fault, heap.growths()), (Some(FileFault::Truncated), 0))
 }
 
-/// A file that isn't written whole is a fault, of a sink that fails after some bytes.
+/// Whether the first `limit` bytes of the file are written, and a fault says so where they aren't all.
+fn is_cut(written: &Written, file: &[u8], limit: usize) -> bool {
+    let wanted = if limit < file.len() {
+        Err(WriteFault { sent: limit as u64 })
+    } else {
+        Ok(file.len() as u64)
+    };
+    let bytes = written.bytes.as_slice();
+    written.answer == wanted && bytes.len() == limit && file.starts_with(bytes)
+}
+
+/// A sink that fails after some bytes of a file has just these.
 #[test]
 fn to_a_sink_that_fails(rt: HostRuntime) -> Result<(), Fail> {
-    let circuit = read(rt.alloc(), AND)?;
-    for (version, length) in [(Version::One, 113), (Version::Two, 145)] {
-        for limit in 0..=length {
-            let wanted = if limit < length {
-                Err(WriteFault { sent: limit as u64 })
-            } else {
-                Ok(length as u64)
-            };
-            let answer = write(rt.alloc(), &circuit, version, Some(limit))?.answer;
-            equal((limit, answer), (limit, wanted))?;
+    let alloc = rt.alloc();
+    let circuit = read(alloc, AND)?;
+    for version in [Version::One, Version::Two] {
+        let file = and_file(alloc, version)?;
+        for limit in 0..=file.len() {
+            let written = write(alloc, &circuit, version, Some(limit))?;
+            equal((limit, is_cut(&written, &file, limit)), (limit, true))?;
         }
     }
     Ok(())

@@ -1,6 +1,7 @@
-//! Tests of task pools: what is pushed is handed out, and full pools.
+//! Tests of task pools: what is pushed is handed out, full pools, and missing thieves.
 
-ghost use Rattle.std.specs.Prelude.{◌≡◌};
+ghost use Rattle.std.specs.Prelude.{◌≡◌, IfSome};
+ghost use Rattle.gc_work.specs.Pool.{AllOf};
 
 use gc_circuit::Operation;
 use gc_fixtures::compare::equal;
@@ -9,7 +10,7 @@ use gc_fixtures::growths::{Answer, plain_if, refusals_met};
 use gc_fixtures::refusing::Refusing;
 use gc_label::{Label, offset};
 use gc_store::Task;
-use gc_work::{Owner, TaskPool, Thief};
+use gc_work::{Gathered, NoRoom, Owner, TaskPool, Thief};
 use std::alloc::{Allocator, Global};
 use std::test::Fail;
 
@@ -30,17 +31,22 @@ fn gate_of(task: Option<Task>) -> Option<u32> {
     Some(task?.gate)
 }
 
-/// Pushes tasks of the gates 0, 1, 2 .. until one is refused, and no more than `most`. Returns how many were pushed.
-fn push_some<A: Allocator>(pool: &TaskPool<A>, owner: &mut Owner<A>, most: u32) -> u32
+/// Pushes tasks of the gates 0, 1, 2 .. until one is refused, and no more than `most`. Returns how many were pushed, and
+/// the refusal.
+fn push_some<A: Allocator>(
+    pool: &TaskPool<A>,
+    owner: &mut Owner<A>,
+    most: u32,
+) -> (u32, Option<NoRoom>)
     requires { owner.old.pool ≡ pool.now }
     ensures { owner.new.pool ≡ owner.old.pool }
 {
     for gate in 0..most {
-        if pool.push(owner, task(gate)).is_err() {
-            return gate;
+        if let Err(refused) = pool.push(owner, task(gate)) {
+            return (gate, Some(refused));
         }
     }
-    most
+    (most, None)
 }
 
 /// Pushes three tasks, pops one and steals two, and then none is left. Returns how many were pushed, and the gates of
@@ -55,7 +61,7 @@ fn use_pool<A: Allocator>(
     ensures own { owner.new.pool ≡ owner.old.pool }
     ensures thief { thief.new.pool ≡ thief.old.pool }
 {
-    let pushed = push_some(pool, owner, 3);
+    let (pushed, _) = push_some(pool, owner, 3);
     let gates = [
         gate_of(pool.pop(owner)),
         gate_of(pool.steal(thief)),
@@ -81,19 +87,103 @@ fn pool_hands_out(rt: HostRuntime) -> Result<(), Fail> {
     equal((is_gathered, heap.growths()), (true, opened))
 }
 
-/// How many of 64 tasks a pool with room for two takes; None where it doesn't open.
-fn taken<A: Allocator + Copy>(alloc: A) -> Option<u32> {
-    let (pool, mut owner, _thieves) = TaskPool::open(alloc, 2, 0).ok()?;
-    Some(push_some(&pool, &mut owner, 64))
+/// Without thieves all of three tasks are popped, the last one first.
+#[test]
+fn pool_hands_out_without_thieves(rt: HostRuntime) -> Result<(), Fail> {
+    let (pool, mut owner, _thieves) = TaskPool::open(rt.alloc(), 3, 0)?;
+    push_some(&pool, &mut owner, 3);
+    let gates = [
+        gate_of(pool.pop(&mut owner)),
+        gate_of(pool.pop(&mut owner)),
+        gate_of(pool.pop(&mut owner)),
+        gate_of(pool.pop(&mut owner)),
+    ];
+    equal(gates, [Some(2), Some(1), Some(0), None])
 }
 
-/// What came of a pool with room for two tasks: it takes 64, and where memory is refused at least two, or doesn't open.
-fn fills(heap: &Refusing<Global>) -> Answer {
-    match taken(heap) {
-        None => Answer::Memory,
-        Some(64) => plain_if(heap.refused() == 0),
-        Some(pushed) => plain_if(heap.refused() == 1 && pushed >= 2),
+/// Takes the last thief away.
+fn take_one<A: Allocator>(pool: &TaskPool<A>, thieves: &mut Vec<Thief<A>, A>) -> Option<Thief<A>>
+    requires { AllOf pool.now thieves.old.items }
+    ensures own { IfSome result (λ thief. thief.pool ≡ pool.now) }
+    ensures rest { AllOf pool.now thieves.new.items }
+{
+    match thieves.pop() {
+        Some(thief) => Some(thief),
+        None => None,
     }
+}
+
+/// Puts a thief back.
+fn put_back<A: Allocator>(
+    pool: &TaskPool<A>,
+    thieves: &mut Vec<Thief<A>, A>,
+    thief: Thief<A>,
+) -> Option<()>
+    requires own { thief.pool ≡ pool.now }
+    requires all { AllOf pool.now thieves.old.items }
+    ensures { IfSome result (λ _. AllOf pool.now thieves.new.items) }
+{
+    thieves.push(thief).ok()
+}
+
+/// Without one of three thieves a pool isn't gathered: its tasks and the other thieves are back. With all three it is.
+#[test]
+fn gathers_with_all_thieves(rt: HostRuntime) -> Result<(), Fail> {
+    let (pool, mut owner, mut thieves) = TaskPool::open(rt.alloc(), 3, 3)?;
+    push_some(&pool, &mut owner, 3);
+    let last = take_one(&pool, &mut thieves).ok_or("a thief")?;
+    let (pool, mut owner, mut thieves) = match pool.gather(owner, thieves) {
+        Ok(_) => return Err(Fail::new("gathered without a thief")),
+        Err(back) => back,
+    };
+    equal((gate_of(pool.pop(&mut owner)), thieves.len()), (Some(2), 2))?;
+    put_back(&pool, &mut thieves, last).ok_or("there is room")?;
+    let Ok(gathered) = pool.gather(owner, thieves) else {
+        return Err(Fail::new("a thief is missing"));
+    };
+    equal(hands_out(gathered, 0, 2), true)
+}
+
+/// Whether a pool that is gathered hands out the tasks of these gates, the last one first, and then none.
+fn hands_out<A: Allocator>(mut gathered: Gathered<A>, first: u32, end: u32) -> bool {
+    for gate in (first..end).rev() {
+        if gathered.next() != Some(task(gate)) {
+            return false;
+        }
+    }
+    gathered.next().is_none()
+}
+
+/// Whether the first of some tasks is stolen, the last one popped, and those between are left.
+fn hands_out_all<A: Allocator>(
+    pool: TaskPool<A>,
+    mut owner: Owner<A>,
+    mut thieves: Vec<Thief<A>, A>,
+    pushed: u32,
+) -> Option<bool>
+    requires own { owner.pool ≡ pool }
+    requires all { AllOf pool thieves.items }
+{
+    let mut thief = take_one(&pool, &mut thieves)?;
+    let stolen = pool.steal(&mut thief)?.gate;
+    let popped = pool.pop(&mut owner)?.gate;
+    put_back(&pool, &mut thieves, thief)?;
+    let gathered = pool.gather(owner, thieves).ok()?;
+    Some(stolen == 0 && popped.checked_add(1) == Some(pushed) && hands_out(gathered, 1, popped))
+}
+
+/// What came of 64 pushes to a pool with room for two tasks: it takes all, or, where memory is refused, at least two,
+/// and gives the next one back; it hands out those that it took, and no others. Or it doesn't open.
+fn fills(heap: &Refusing<Global>) -> Answer {
+    let Ok((pool, mut owner, thieves)) = TaskPool::open(heap, 2, 1) else {
+        return Answer::Memory;
+    };
+    let (pushed, refused) = push_some(&pool, &mut owner, 64);
+    let is_right = match refused {
+        None => pushed == 64 && heap.refused() == 0,
+        Some(refused) => pushed >= 2 && refused.task == task(pushed) && heap.refused() == 1,
+    };
+    plain_if(is_right && hands_out_all(pool, owner, thieves, pushed) == Some(true))
 }
 
 /// A full pool grows where memory is there, and refuses a task where none is. It takes none for the first pushes.

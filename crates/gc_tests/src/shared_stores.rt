@@ -1,83 +1,59 @@
-//! A test of a store that is shared: what its calls return, when its holder stops it, and what a task finds that comes
-//! late.
+//! Tests of a store that is shared: its holder leaves, and what it held comes late; strangers are refused; and what is
+//! sealed is taken back after a stop.
 
 ghost use Rattle.gc_store.specs.Account.{IsForStore};
 
-use crate::fixtures::{ledger, open};
+use crate::fixtures::{claim_gate, ledger, open, stranger};
 use gc_fixtures::compare::equal;
+use gc_fixtures::files::zero_seed;
 use gc_fixtures::refusing::Refusing;
-use gc_label::{Seed, offset};
+use gc_label::Seed;
 use gc_store::{Batch, Refused, Sealed, SharedStore, Store, Tally, Task};
 use std::alloc::{Allocator, Global};
 use std::marker::Brand;
 use std::sync::Wait;
 use std::sync::ledger::{Blank, Ledger};
 use std::test::Fail;
+use std::thread;
+use std::thread::Threads;
 
-/// A task under another seed is refused. Of two that are of one gate and handed in at once the second is refused, and
-/// the first is finished and counted.
-fn refuses<L: Ledger, A: Allocator>(
+/// A task under another seed and one of gate 5, which a larger circuit has, are refused, and nothing is counted or
+/// claimed.
+fn refuses_strangers<L: Ledger, A: Allocator>(
     rt: &impl Wait,
     shared: &SharedStore<L, A>,
     tally: &mut Tally<L>,
-    task: Task,
 ) -> Result<(), Fail> {
     let mut batch = Batch::new();
-    let own = Sealed::make(task);
-    let other = Sealed::make(Task {
-        offset: offset(&Seed::from_bytes([1; 32])),
-        ..own.task()
-    });
-    let first = shared.hand_in(rt, other, tally, &mut batch);
-    let second = shared.hand_in_all(rt, &[own, own], tally, &mut batch);
-    equal(
-        (first, second, tally.count()),
-        (
-            Err(Refused::OtherInputs(other)),
-            Err(Refused::NotClaimed(own)),
-            1,
-        ),
-    )
+    let other = stranger(&Seed::from_bytes([1; 32]), 0);
+    let beyond = stranger(&zero_seed(), 5);
+    for refused in [Refused::OtherInputs(other), Refused::NotClaimed(beyond)] {
+        let answer = shared.hand_in(rt, refused.sealed(), tally, &mut batch);
+        let found = (answer, tally.count(), batch.len());
+        equal(found, (Err(refused), 0, 0))?;
+    }
+    Ok(())
 }
 
-/// Gate 1 is handed in, and gate 2 is claimed. The store is stopped: then gate 2 is handed in, which makes gate 4
-/// ready, and nothing is claimed.
-fn stops<L: Ledger, A: Allocator>(
-    rt: &impl Wait,
-    shared: &SharedStore<L, A>,
-    tally: &mut Tally<L>,
-    one: Task,
-) -> Option<bool> {
-    let mut batch = Batch::new();
-    let before = shared.hand_in(rt, Sealed::make(one), tally, &mut batch);
-    let two = batch.pop()?;
-    shared.stop(rt);
-    let after = shared.hand_in_all(rt, &[Sealed::make(two)], tally, &mut batch);
-    let is_accepted = two.gate == 2 && before == Ok(false) && after == Ok(false);
-    Some(is_accepted && batch.is_empty() && shared.take(rt).is_none())
-}
-
-/// Gates 0 and 1 are taken, and, once gate 0 is finished, gate 3. The others stop the store. Returns gate 3's task.
-fn leave<L: Ledger, A: Allocator>(
-    rt: &impl Wait,
+/// Gates 0 and 1 are taken, and 0 is handed in. The holder of 1, a thread, stops the store and ends. Returns the task
+/// of gate 1.
+fn leave<L: Ledger + Send + Sync, A: Allocator + Send + Sync, R: Threads + Wait + Sync>(
+    rt: &R,
     shared: &SharedStore<L, A>,
     tally: &mut Tally<L>,
 ) -> Result<Task, Fail> {
-    let zero = shared.take(rt).ok_or("gate 0 is ready")?;
+    let zero = Sealed::make(shared.take(rt).ok_or("gate 0 is ready")?);
     let one = shared.take(rt).ok_or("gate 1 is ready")?;
-    refuses(rt, shared, tally, zero)?;
-    let three = shared.take(rt).ok_or("gate 3 is ready")?;
-    equal(stops(rt, shared, tally, one), Some(true))?;
-    Ok(three)
+    refuses_strangers(rt, shared, tally)?;
+    let mut batch = Batch::new();
+    let answer = shared.hand_in(rt, zero, tally, &mut batch);
+    let next = batch.pop().map(|task| task.gate);
+    let _ = thread::join(rt, || shared.stop(rt), || ());
+    equal((answer, next, shared.take(rt)), (Ok(false), Some(3), None))?;
+    Ok(one)
 }
 
-/// Claims a gate, and returns it.
-fn claim_gate<L: Ledger, A: Allocator>(store: &mut Store<L, A>) -> Option<u32> {
-    Some(store.claim()?.gate)
-}
-
-/// What was claimed goes again, the first gate in the file first, and the late task of gate 3 is refused until its gate
-/// is claimed again.
+/// What was claimed goes again, and the late task of gate 1 is refused until its gate is claimed again.
 fn comes_late<L: Ledger, A: Allocator>(
     store: &mut Store<L, A>,
     tally: &mut Tally<L>,
@@ -90,25 +66,30 @@ fn comes_late<L: Ledger, A: Allocator>(
     equal(
         (reopened, refused, gates, accepted),
         (
-            1,
+            2,
             Err(Refused::NotClaimed(late)),
-            [Some(3), Some(4), None],
+            [Some(1), Some(3), None],
             Ok(false),
         ),
     )
 }
 
-/// A store is shared, its holder leaves, and the task that it held comes late.
-fn share<L: Ledger, A: Allocator>(rt: &impl Wait, mut store: Store<L, A>) -> Result<(), Fail> {
+/// A store is shared, its holder leaves, and the task that it held comes late. An incomplete store isn't a garbling.
+fn share<L: Ledger + Send + Sync, A: Allocator + Send + Sync, R: Threads + Wait + Sync>(
+    rt: &R,
+    mut store: Store<L, A>,
+) -> Result<(), Fail> {
     let mut tally = store.tally().ok_or("no tally was dealt")?;
     let shared = SharedStore::new(store);
-    let late = leave(rt, &shared, &mut tally);
-    let mut store = shared.into_store();
-    comes_late(&mut store, &mut tally, Sealed::make(late?))
+    let late = Sealed::make(leave(rt, &shared, &mut tally)?);
+    match shared.into_store().into_garbling() {
+        Ok(_) => Err(Fail::new("the store is complete")),
+        Err(mut store) => comes_late(&mut store, &mut tally, late),
+    }
 }
 
-fn holder_leaves<L: Ledger>(
-    rt: &impl Wait,
+fn holder_leaves<L: Ledger + Send + Sync, R: Threads + Wait + Sync>(
+    rt: &R,
     heap: &Refusing<Global>,
     ledger: Blank,
 ) -> Result<(), Fail>
@@ -124,5 +105,32 @@ fn holder_leaves<L: Ledger>(
 #[test]
 fn a_holder_leaves(rt: HostRuntime) -> Result<(), Fail> {
     let heap = Refusing::never(rt.alloc());
-    holder_leaves::<Brand>(&rt, &heap, ledger())
+    holder_leaves::<Brand, HostRuntime>(&rt, &heap, ledger())
+}
+
+/// Of two tasks of gate 0 that are handed in at once the second is refused, and the first is counted. After a stop gate
+/// 1 is taken back, and nothing is claimed.
+fn takes_back<L: Ledger>(rt: &impl Wait, alloc: Global, ledger: Blank) -> Result<(), Fail>
+    requires { IsForStore L.name L.parts ledger }
+{
+    let mut store = open::<L, Global>(alloc, ledger).ok_or("there is memory")?;
+    let mut tally = store.tally().ok_or("no tally was dealt")?;
+    let shared = SharedStore::new(store);
+    let mut batch = Batch::new();
+    let zero = Sealed::make(shared.take(rt).ok_or("gate 0 is ready")?);
+    let one = Sealed::make(shared.take(rt).ok_or("gate 1 is ready")?);
+    let twice = shared.hand_in_all(rt, &[zero, zero], &mut tally, &mut batch);
+    shared.stop(rt);
+    let stopped = shared.hand_in(rt, one, &mut tally, &mut batch);
+    equal(
+        (twice, stopped),
+        (Err(Refused::NotClaimed(zero)), Ok(false)),
+    )?;
+    let found = (tally.count(), batch.len(), shared.take(rt));
+    equal(found, (2, 0, None))
+}
+
+#[test]
+fn takes_back_after_a_stop(rt: HostRuntime) -> Result<(), Fail> {
+    takes_back::<Brand>(&rt, rt.alloc(), ledger())
 }

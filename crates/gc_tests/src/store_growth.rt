@@ -3,14 +3,14 @@
 
 ghost use Rattle.gc_store.specs.Account.{IsForStore};
 
-use crate::fixtures::{ledger, open};
+use crate::fixtures::{finish_gates, ledger, open};
 use gc_circuit::{Circuit, Memory};
 use gc_fixtures::circuits::FULL_ADDER;
 use gc_fixtures::compare::equal;
 use gc_fixtures::files::zero_seed;
 use gc_fixtures::growths::{Answer, answer_of, runs_refused};
 use gc_fixtures::refusing::Refusing;
-use gc_store::{Batch, Sealed, Store, Tally};
+use gc_store::{Batch, Store, Tally};
 use gc_work::TaskPool;
 use std::alloc::{Allocator, Global};
 use std::marker::Brand;
@@ -65,19 +65,6 @@ fn claims_and_settles<L: Ledger, A: Allocator>(
     claimed && reopened && store.settle(tallies) == Ok(0)
 }
 
-/// Finishes five gates, one after another. Returns whether the store is complete then.
-fn finishes<L: Ledger, A: Allocator>(store: &mut Store<L, A>, tally: &mut Tally<L>) -> bool {
-    for _gate in 0..5 {
-        let Some(task) = store.claim() else {
-            return false;
-        };
-        if store.finish(Sealed::make(task), tally).is_err() {
-            return false;
-        }
-    }
-    store.is_complete()
-}
-
 /// Deals a tally, claims, puts back, settles and then finishes all gates of the full adder over an opened store.
 /// Returns whether that goes as it should.
 fn works<L: Ledger, A: Allocator>(alloc: Global, store: &mut Store<L, A>) -> Option<bool> {
@@ -85,7 +72,8 @@ fn works<L: Ledger, A: Allocator>(alloc: Global, store: &mut Store<L, A>) -> Opt
     let mut tallies = one_tally(alloc, store)?;
     let settles = claims_and_settles(store, &mut tallies) && store.is_for(&circuit, &zero_seed());
     let mut tally = tallies.pop()?;
-    Some(settles && finishes(store, &mut tally))
+    finish_gates(store, &mut tally, 5)?;
+    Some(settles && store.is_complete())
 }
 
 /// The same, and takes the garbling out of the store.
