@@ -1,5 +1,5 @@
-"""halfgates.convert: circuits of the old Bristol format, and of Bristol Fashion with operations that the program doesn't
-have. tests/test_netlists.py has netlists.
+"""halfgates.convert: circuits of the old Bristol format, and of Bristol Fashion with operations that the program
+doesn't have. tests/test_netlists.py has netlists.
 """
 import contextlib
 import gzip

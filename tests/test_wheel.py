@@ -146,6 +146,14 @@ class Installed(WheelTest):
         printed = outputs([begin, *(it for it, _ in blocks)], place)
         self.assertEqual(printed[1:], [it for _, it in blocks])
 
+    def test_the_command(self):
+        self.install(self.wheel)
+        made = self.folder / "made.txt"
+        words = self.venv / "bin/python", "-m", "halfgates.convert", "--check", "5", EXAMPLES / "full_adder.txt", made
+        done = run(*words, cwd=self.folder, env=self.environment)
+        self.assertEqual((done.returncode, done.stderr), (0, ""))
+        self.assertEqual(made.read_bytes(), (EXAMPLES / "full_adder.txt").read_bytes())
+
     def test_the_sources(self):
         """They install the files of the wheel."""
         self.install(TOP / "python")
