@@ -240,7 +240,8 @@ class Unclear(unittest.TestCase):
 
     def test_what_the_library_refuses(self):
         with mock.patch.object(module.Source, "build", lambda _: b"1 1"):
-            self.assert_unclear(FULL_ADDER, "what it becomes isn't read: fault 1 Truncated")
+            said = "what it becomes isn't read: fault 1 Truncated: the text ends before the circuit does"
+            self.assert_unclear(FULL_ADDER, said)
 
     def test_damaged_texts(self):
         """Whatever a text has, it is a circuit, or it is said why not."""

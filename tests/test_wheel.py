@@ -90,6 +90,9 @@ class Files(WheelTest):
         self.assertEqual(metadata["License-Expression"], "MIT OR Apache-2.0")
         self.assertEqual(metadata["Requires-Python"], ">=3.9")
         self.assertEqual(metadata.get_all("License-File"), [*LICENSES])
+        self.assertEqual(metadata["Author"], "The halfgates developers")
+        self.assertEqual(metadata["Description-Content-Type"], "text/markdown")
+        self.assertEqual(metadata.get_payload(), (TOP / "python/README.md").read_text())
 
         record = held[f"{info}/RECORD"].decode()
         found = {path: about for path, *about in csv.reader(io.StringIO(record))}
