@@ -1,7 +1,7 @@
 // SPDX-License-Identifier: MIT OR Apache-2.0
 //! Links the C library: of the folder that `HALFGATES_LIB_DIR` names, or else of `dist/lib` in this
 //! repository, or else the one that pkg-config finds. A folder's archive is linked, or, where
-//! `HALFGATES_DYNAMIC` is set, its shared library.
+//! `HALFGATES_DYNAMIC` is set, its shared library. With the feature `unlinked` nothing is linked.
 
 use std::env;
 use std::ffi::OsString;
@@ -12,10 +12,14 @@ const FOLDER: &str = "HALFGATES_LIB_DIR";
 const DYNAMIC: &str = "HALFGATES_DYNAMIC";
 const PKG_CONFIG: &str = "PKG_CONFIG";
 const CRATE: &str = "CARGO_MANIFEST_DIR";
+const UNLINKED: &str = "CARGO_FEATURE_UNLINKED";
 
 fn main() {
     for variable in [FOLDER, DYNAMIC, PKG_CONFIG, CRATE] {
         println!("cargo:rerun-if-env-changed={variable}");
+    }
+    if env::var_os(UNLINKED).is_some() {
+        return;
     }
     match variable(FOLDER)
         .map(PathBuf::from)

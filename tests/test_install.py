@@ -22,6 +22,7 @@ EXAMPLE = EXAMPLES / "c/two_parties.c"
 WORDS = EXAMPLES / "less8.txt", "7", "9"
 LICENSES = "LICENSE-MIT", "LICENSE-APACHE", "THIRD-PARTY.md"
 ADD = "plain", EXAMPLES / "full_adder.txt", "1", "0", "1"
+RUN = "halfgates", "halfgates-convert"
 
 CMAKE_LISTS = f"""
 cmake_minimum_required(VERSION 3.13)
@@ -68,12 +69,13 @@ class InstallTest(unittest.TestCase):
         for name in ("install", "halfgates", "machine.sh", "sources.sh", *LICENSES):
             shutil.copy2(TOP / name, self.top)
         shutil.copytree(RELEASE, self.top / "dist")
+        shutil.copytree(TOP / "python", self.top / "python")
 
     def install(self, prefix=None, **how):
         self.assertEqual(run(self.top / "install", prefix or self.prefix, **how), (0, "", ""))
 
     def files(self):
-        found = sorted(it for it in self.prefix.rglob("*") if it.is_file())
+        found = sorted(it for it in self.prefix.rglob("*") if it.is_file() and "__pycache__" not in it.parts)
         return {str(it.relative_to(self.prefix)): it.read_bytes() for it in found}
 
     def test_files(self):
@@ -86,6 +88,8 @@ class InstallTest(unittest.TestCase):
             self.assertEqual(installed[f"share/doc/halfgates/{name}"], (TOP / name).read_bytes())
         self.assertEqual(os.readlink(self.prefix / "lib/libhalfgates.so"), SONAME)
         self.assertEqual(installed["share/man/man1/halfgates.1"], (RELEASE / "halfgates.1").read_bytes())
+        for source in (*TOP.glob("python/halfgates/*.py"), TOP / "python/halfgates/py.typed"):
+            self.assertEqual(installed[f"share/halfgates/python/halfgates/{source.name}"], source.read_bytes())
 
     def test_twice(self):
         """It replaces what stands there, also while it is used."""
@@ -133,7 +137,7 @@ class InstallTest(unittest.TestCase):
             prefix = self.folder / f"umask{umask}"
             self.install(prefix, preexec_fn=lambda: os.umask(umask))
             for path in prefix.rglob("*"):
-                is_run = path.is_dir() or path.name == "halfgates" or path.name.startswith("libhalfgates.so")
+                is_run = path.is_dir() or path.name in RUN or path.name.startswith("libhalfgates.so")
                 self.assertEqual(oct(stat.S_IMODE(path.stat().st_mode)), oct(0o755 if is_run else 0o644), path)
 
     def test_relative(self):
@@ -171,7 +175,8 @@ class InstallTest(unittest.TestCase):
         for _ in range(2):
             self.assertEqual(run(self.top / "install", "--uninstall", self.prefix), (0, "", ""))
             self.assertEqual({it for it in self.prefix.rglob("*") if not it.is_dir()}, {*others})
-        self.assertFalse((self.prefix / "libexec/halfgates").exists())
+        for name in ("libexec/halfgates", "share/halfgates"):
+            self.assertFalse((self.prefix / name).exists())
 
     def test_prefixes_that_are_refused(self):
         said = "install: halfgates.pc can't name this PREFIX: it has a quote, a #, a $ or a control character\n"
@@ -189,10 +194,27 @@ class InstallTest(unittest.TestCase):
         ending = run("sh", "-c", script, cwd=self.folder)
         self.assertEqual(ending, (1, "", "halfgates: fault 51 CannotWrite\n"))
 
+    def test_the_package_for_python(self):
+        """It finds the library beside it, and so does its command, also by a link."""
+        self.install()
+        environment = {name: it for name, it in os.environ.items() if not name.startswith(("HALFGATES_", "PYTHON"))}
+        environment["PYTHONDONTWRITEBYTECODE"] = "1"
+        (self.folder / "link").symlink_to(self.prefix / "bin/halfgates-convert")
+        for command in (self.prefix / "bin/halfgates-convert", self.folder / "link"):
+            words = command, "--check", "5", EXAMPLES / "full_adder.txt", self.folder / "made.txt"
+            self.assertEqual(run(*words, env=environment)[::2], (0, ""))
+            self.assertEqual((self.folder / "made.txt").read_text(), (EXAMPLES / "full_adder.txt").read_text())
+        environment["PYTHONPATH"] = str(self.prefix / "share/halfgates/python")
+        code = "from halfgates import _library; print(_library.library_path())"
+        status, printed, error = run("python3", "-c", code, env=environment)
+        self.assertEqual((status, error), (0, ""))
+        self.assertEqual(Path(printed.strip()).resolve(), self.prefix / "lib" / SONAME)
+
     def test_a_prefix_that_moves(self):
         self.install()
         self.prefix.rename(self.folder / "moved")
         self.assertEqual(run(self.folder / "moved/bin/halfgates", *ADD), (0, "01\n", ""))
+        self.assertEqual(run(self.folder / "moved/bin/halfgates-convert", "--help")[::2], (0, ""))
 
     def install_on(self, machine):
         """Installs where uname says so."""
@@ -203,12 +225,15 @@ class InstallTest(unittest.TestCase):
         return run(self.top / "install", self.prefix, env=environment)
 
     def test_arm64(self):
-        """The library alone."""
+        """The library and the package for Python alone."""
         self.assertEqual(self.install_on("aarch64"), (0, "", ""))
         installed = self.files()
         for name in (SONAME, "libhalfgates.a"):
             self.assertEqual(installed[f"lib/{name}"], (RELEASE / "lib/aarch64" / name).read_bytes())
-        self.assertFalse([name for name in installed if name.startswith(("bin/", "libexec/", "lib/glibc-hwcaps/"))])
+        link = self.prefix / "share/halfgates/python/halfgates/lib/aarch64" / SONAME
+        self.assertEqual(link.resolve(), self.prefix / "lib" / SONAME)
+        self.assertFalse([name for name in installed if name.startswith(("libexec/", "lib/glibc-hwcaps/"))])
+        self.assertFalse((self.prefix / "bin/halfgates").exists())
 
     def test_other_processors(self):
         status, _, error = self.install_on("riscv64")

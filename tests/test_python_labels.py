@@ -36,7 +36,7 @@ class LabelsTest(unittest.TestCase):
     def assert_fault(self, fault, call, *words):
         with self.assertRaises(Fault) as caught:
             call(*words)
-        self.assertEqual(str(caught.exception), f"fault {fault}")
+        self.assertEqual(f"{caught.exception.code} {caught.exception.name}", fault)
 
 
 class Vectors(LabelsTest):

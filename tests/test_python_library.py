@@ -41,8 +41,9 @@ class LibraryTest(unittest.TestCase):
         """The call raises a Fault of this code and this name."""
         with self.assertRaises(Fault) as caught:
             call(*words)
-        self.assertEqual(str(caught.exception), f"fault {fault}")
-        self.assertEqual(f"{caught.exception.code} {caught.exception.name}", fault)
+        raised = caught.exception
+        self.assertEqual(f"{raised.code} {raised.name}", fault)
+        self.assertEqual(str(raised), f"fault {fault}: {halfgates.Code(raised.code).meaning}")
 
 
 class Vectors(LibraryTest):
@@ -270,7 +271,8 @@ class BesideTheProgram(ProgramTest):
                     if status == 1:
                         with self.assertRaises(Fault) as caught:
                             garbling.audit(spoiled)
-                        self.assertEqual(f"halfgates: {caught.exception}\n", fault)
+                        said = f"fault {caught.exception.code} {caught.exception.name}"
+                        self.assertEqual(f"halfgates: {said}\n", fault)
                     else:
                         self.assertEqual(self.lines_of(garbling.audit(spoiled)), printed)
 
@@ -652,6 +654,24 @@ class BareNames(unittest.TestCase):
         how = {"cwd": TOP, "env": environment_of_python(), "capture_output": True, "text": True}
         done = subprocess.run(words, check=False, **how)
         self.assertEqual((done.returncode, done.stdout, done.stderr), (0, "", ""))
+
+
+class Codes(unittest.TestCase):
+    """The codes, their names and their meanings are those of the header."""
+
+    def test_they_are_those_of_the_header(self):
+        header = (TOP / "include/halfgates.h").read_text()
+        found = re.findall(r"^ +HALFGATES_(\w+) = (\d+),? +/\* (.*?) \*/$", header, re.M | re.S)
+        said = {name: (int(code), " ".join(meaning.split())) for name, code, meaning in found}
+        self.assertEqual({it.name: (it, it.meaning) for it in halfgates.Code if it}, said)
+        self.assertEqual(halfgates.Code.OK, 0)
+
+    def test_names_of_faults(self):
+        for code in halfgates.Code:
+            fault = Fault(code)
+            self.assertEqual((fault.code, fault.meaning), (code, code.meaning))
+            self.assertEqual(str(fault), f"fault {int(code)} {fault.name}: {code.meaning}")
+        self.assertEqual(str(Fault(99)), "fault 99 Unknown")
 
 
 class Package(unittest.TestCase):

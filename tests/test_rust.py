@@ -23,6 +23,14 @@ TYPES = {
 }
 
 
+# The build script of a crate that links the library by itself.
+LINKS = """fn main() {
+    println!("cargo:rustc-link-search=native={}", std::env::var("PLACE").unwrap());
+    println!("cargo:rustc-link-lib=static=halfgates");
+}
+"""
+
+
 def rust_of(parameter):
     """The type in Rust of a parameter of C, such as `const uint8_t seed[32]`."""
     base = re.sub(r"^const ", "", parameter).split()[0]
@@ -118,6 +126,21 @@ class Cargo(unittest.TestCase):
             how = {"HALFGATES_LIB_DIR": str(folder)}
             self.assertNotIn(SONAME, self.run_example(**how))
             self.assertIn(SONAME, self.run_example(HALFGATES_DYNAMIC="1", **how))
+
+    def test_a_package_of_it(self):
+        """It is built from its own files alone, by itself and in a crate that links the library by itself."""
+        self.cargo("package", "--allow-dirty", "--features", "unlinked", HALFGATES_LIB_DIR="")
+        [package] = self.folder.glob("target/package/halfgates-*.crate")
+        user = self.folder / "user"
+        (user / "src").mkdir(parents=True)
+        shutil.unpack_archive(package, user, format="gztar")
+        path = package.name[: -len(".crate")]
+        used = f'halfgates = {{ path = "{path}", features = ["unlinked"] }}'
+        (user / "Cargo.toml").write_text(f'[package]\nname = "user"\nedition = "2021"\n[dependencies]\n{used}\n')
+        (user / "build.rs").write_text(LINKS)
+        (user / "src/main.rs").write_text('fn main() { println!("{}", halfgates::version()) }\n')
+        said = self.cargo("run", "--quiet", folder=user, HALFGATES_LIB_DIR="", PLACE=str(LIB_DIR))
+        self.assertRegex(said, r"^\d+\.\d+\.\d+\n$")
 
     @unittest.skipUnless(shutil.which("pkg-config"), "there is no pkg-config")
     def test_what_pkg_config_finds(self):

@@ -105,6 +105,9 @@ class Files(WheelTest):
         self.assertEqual(metadata["License-Expression"], "MIT OR Apache-2.0")
         self.assertEqual(metadata["Requires-Python"], ">=3.9")
         self.assertEqual(metadata.get_all("License-File"), [*LICENSES])
+        self.assertEqual(metadata["Author"], "The halfgates developers")
+        self.assertEqual(metadata["Description-Content-Type"], "text/markdown")
+        self.assertEqual(metadata.get_payload(), (TOP / "python/README.md").read_text())
 
         record = held[f"{info}/RECORD"].decode()
         found = {path: about for path, *about in csv.reader(io.StringIO(record))}
@@ -173,6 +176,14 @@ class Installed(WheelTest):
         begin = f"unset HALFGATES_LIBRARY PYTHONPATH; PATH={self.venv}/bin:$PATH"
         printed = outputs([begin, *(it for it, _ in blocks)], place)
         self.assertEqual(printed[1:], [it for _, it in blocks])
+
+    def test_the_command(self):
+        self.install(self.wheel)
+        made = self.folder / "made.txt"
+        words = self.venv / "bin/python", "-m", "halfgates.convert", "--check", "5", EXAMPLES / "full_adder.txt", made
+        done = run(*words, cwd=self.folder, env=self.environment)
+        self.assertEqual((done.returncode, done.stderr), (0, ""))
+        self.assertEqual(made.read_bytes(), (EXAMPLES / "full_adder.txt").read_bytes())
 
     def test_the_sources(self):
         """They install the files of the wheel for this machine."""

@@ -71,10 +71,12 @@ def read_library(name: str) -> bytes:
 
 
 def read_project() -> Dict[str, object]:
-    """The table [project] of pyproject.toml. Its values are strings and lists, which Python writes as TOML does."""
+    """The table [project] of pyproject.toml. Its values are strings and lists, which Python writes as TOML does, and
+    tables, whose keys Python quotes."""
     text = (PYTHON / "pyproject.toml").read_text(encoding="utf-8")
     table = text.partition("\n[project]\n")[2].partition("\n[")[0]
-    return {key: ast.literal_eval(value) for key, value in re.findall(r"^([\w-]+) = (.*)$", table, re.M)}
+    found = re.findall(r"^([\w-]+) = (.*)$", table, re.M)
+    return {key: ast.literal_eval(re.sub(r"{ (\w+) = ", r'{"\1": ', value)) for key, value in found}
 
 
 def core_metadata(project: Dict[str, object]) -> bytes:
@@ -83,12 +85,16 @@ def core_metadata(project: Dict[str, object]) -> bytes:
         f"Name: {project['name']}",
         f"Version: {project['version']}",
         f"Summary: {project['description']}",
+        f"Keywords: {','.join(project['keywords'])}",
+        *[f"Author: {it['name']}" for it in project["authors"]],
         f"License-Expression: {project['license']}",
         *[f"License-File: {it}" for it in LICENSES],
         *[f"Classifier: {it}" for it in project["classifiers"]],
         f"Requires-Python: {project['requires-python']}",
+        "Description-Content-Type: text/markdown",
+        "",
     ]
-    return "".join(f"{it}\n" for it in lines).encode()
+    return "".join(f"{it}\n" for it in lines).encode() + (PYTHON / project["readme"]).read_bytes()
 
 
 def write_wheel(folder, files: Dict[str, bytes], platform: str) -> str:

@@ -11,10 +11,11 @@ A circuit is read once, and garbled under any number of seeds:
 
 Texts and files are objects with the buffer protocol. They are read in place, but several label files are joined first.
 Bits are bytes 0 and 1 in wire order: `to_bits` makes them of a number, and `from_bits` a number of them. A call that
-fails raises a `Fault`, with its `code` and its `name`.
+fails raises a `Fault`, with its `code`, which `Code` has, its `name` and its `meaning`.
 """
 
 from ._bits import Bits, Buffer, from_bits, to_bits
+from ._codes import Code
 from ._handles import Circuit, Garbling, Job, decode, evaluate_many, locate, write_many
 from ._library import Fault, MemoryFault, is_memory, version
 from ._reports import GarbledReport, LabelsReport, Place, WireLabels
@@ -25,6 +26,7 @@ __all__ = [
     "Bits",
     "Buffer",
     "Circuit",
+    "Code",
     "Fault",
     "Garbling",
     "GarbledReport",

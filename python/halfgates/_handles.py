@@ -12,8 +12,9 @@ from typing import Callable, Iterable, Iterator, List, Optional, Sequence, Tuple
 from . import _library
 from ._bits import Bits, Buffer
 from ._buffers import Lent
+from ._codes import Code
 from ._handle import Handle, Shape, owner
-from ._library import BAD_ARGUMENT, OK, SMALL_BUFFER, Fault, check, library
+from ._library import Fault, check, library
 from ._reports import GarbledReport, LabelsReport, Place, WireLabels
 
 SEED = 32  # the bytes of a seed
@@ -85,7 +86,7 @@ class Circuit(Handle):
     def garbled_size(self, version: int = 2) -> int:
         """How many bytes a garbled file of this version has, 1 or 2. Fault 60: there is no such version."""
         size = self._call(library.halfgates_garbled_size, _u32(version))
-        check(OK if size else BAD_ARGUMENT)
+        check(Code.OK if size else Code.BAD_ARGUMENT)
         return size
 
     def garble(self, seed: Buffer) -> "Garbling":
@@ -221,7 +222,7 @@ class Garbling(Handle):
     def _size(self, version: int) -> int:
         written = c_size_t()
         code = self._call(library.halfgates_garbling_write, version, None, 0, byref(written))
-        if code != SMALL_BUFFER:
+        if code != Code.SMALL_BUFFER:
             check(code)
         return written.value
 
@@ -298,7 +299,7 @@ class Garbling(Handle):
         most = max(self._shape.wires - start, 0)
         count = most if count is None else integer(count)
         if not 0 <= count <= most:
-            raise Fault(BAD_ARGUMENT)
+            raise Fault(Code.BAD_ARGUMENT)
         found = (_library.WireLabels * count)()
         with _lent_bits(bits) as lent:
             check(self._call(library.halfgates_labels, lent.at, lent.size, start, found, count))

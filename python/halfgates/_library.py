@@ -5,12 +5,8 @@ import ctypes
 from ctypes import POINTER, c_char, c_int32, c_size_t, c_uint8, c_uint32, c_uint64, c_void_p
 from typing import Any, Dict, Tuple
 
+from ._codes import Code
 from ._path import library_path
-
-OK, BAD_ARGUMENT, SMALL_BUFFER = 0, 60, 61
-
-# NoSuchWire, Unset, SetTwice and OutputUnset.
-FAULTS_OF_WIRES = 7, 8, 9, 10
 
 # The value that means no gate, no wire or no output.
 NONE = 2**32 - 1
@@ -131,15 +127,20 @@ def is_memory(code: int) -> bool:
     return bool(library.halfgates_is_memory(code))
 
 
+def meaning_of(code: int) -> str:
+    """What a code means, or "" for a code that this package doesn't know."""
+    return next((it.meaning for it in Code if it == code), "")
+
+
 class Fault(Exception):
-    """A call failed, and changed nothing. The codes and names are those of docs/FAULTS.md."""
+    """A call failed, and changed nothing: its `code`, as `Code` has them, its `name` and its `meaning`."""
 
     def __init__(self, code: int) -> None:
-        self.code, self.name = code, name_of(code)
+        self.code, self.name, self.meaning = int(code), name_of(code), meaning_of(code)
         super().__init__(code)
 
     def __str__(self) -> str:
-        return f"fault {self.code} {self.name}"
+        return f"fault {self.code} {self.name}" + (f": {self.meaning}" if self.meaning else "")
 
 
 class MemoryFault(Fault, MemoryError):
@@ -148,5 +149,5 @@ class MemoryFault(Fault, MemoryError):
 
 def check(code: int) -> None:
     """Raises the fault of this code, unless it is that of success."""
-    if code != OK:
+    if code != Code.OK:
         raise (MemoryFault if is_memory(code) else Fault)(code)

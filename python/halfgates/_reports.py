@@ -4,7 +4,8 @@
 from typing import NamedTuple, Optional
 
 from . import _library
-from ._library import FAULTS_OF_WIRES, NONE, OK, WRONG_LABEL, name_of
+from ._codes import OF_WIRES, Code
+from ._library import NONE, WRONG_LABEL, name_of
 
 
 def _or_none(number: int) -> Optional[int]:
@@ -23,10 +24,10 @@ class Place(NamedTuple):
 
     @classmethod
     def _of(cls, it: _library.Place) -> "Optional[Place]":
-        if it.fault == OK:
+        if it.fault == Code.OK:
             return None
         # A token that is meant as a wire may be any number, NONE too.
-        wire = it.wire if it.fault in FAULTS_OF_WIRES else None
+        wire = it.wire if it.fault in OF_WIRES else None
         return cls(it.fault, name_of(it.fault), it.line, it.column, _or_none(it.gate), wire)
 
 
@@ -90,4 +91,4 @@ class LabelsReport(NamedTuple):
     @classmethod
     def _of(cls, it: _library.LabelsReport, bits: bytearray) -> "LabelsReport":
         verdict = "WrongLabel" if it.verdict == WRONG_LABEL else name_of(it.verdict)
-        return cls(verdict, it.index, bits if it.verdict == OK else None, _or_none(it.wire))
+        return cls(verdict, it.index, bits if it.verdict == Code.OK else None, _or_none(it.wire))

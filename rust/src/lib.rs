@@ -3,9 +3,10 @@
 //! Garbles Boolean circuits with half gates, and evaluates garbled circuits.
 //!
 //! This is a safe view of the C library `halfgates`, whose calls are proved to meet their
-//! contracts. The crate itself is tested, not proved. It is for Linux on x86-64 and needs no other
-//! crate. It links the library in the folder that `HALFGATES_LIB_DIR` names, or else the one of
-//! its repository, or else the one that pkg-config finds.
+//! contracts. The crate itself is tested, not proved. It is for Linux on x86-64 and ARM64, and
+//! needs no other crate. It links the library in the folder that `HALFGATES_LIB_DIR` names, or else
+//! the one of its repository for the target's processor, or else the one that pkg-config finds. With
+//! the feature `unlinked` it links none: the program that uses it does.
 //!
 //! # Two parties
 //!
@@ -77,7 +78,18 @@ pub use report::{
 /// A label of a wire. Its colour, by which rows are chosen, is the lowest bit of the first byte.
 pub type Label = [u8; 16];
 
-/// The two rows of an AND gate, in the order in which files and networks have them.
+/// The two rows of an AND gate. Files and networks have them as 32 bytes, the generator's first:
+///
+/// ```
+/// use halfgates::{Circuit, RowPair};
+///
+/// let rows = Circuit::read("1 3\n2 1 1\n1 1\n2 1 0 1 2 AND")?.garble(&[0; 32])?.rows()?;
+/// let sent: Vec<u8> = rows.iter().flat_map(|pair| pair.to_bytes()).collect();
+/// let pair_of = |bytes: &[u8]| RowPair::from_bytes(bytes.try_into().unwrap());
+/// let received: Vec<RowPair> = sent.chunks_exact(32).map(pair_of).collect();
+/// assert_eq!(received, rows);
+/// # Ok::<(), halfgates::Fault>(())
+/// ```
 #[repr(C)]
 #[derive(Clone, Copy, Debug, PartialEq, Eq, Hash)]
 pub struct RowPair {
@@ -85,6 +97,41 @@ pub struct RowPair {
     pub generator: Label,
     /// The row of the evaluator half gate.
     pub evaluator: Label,
+}
+
+impl RowPair {
+    /// The row pair of these bytes.
+    #[must_use]
+    pub fn from_bytes(bytes: [u8; 32]) -> Self {
+        let (mut generator, mut evaluator) = (Label::default(), Label::default());
+        generator.copy_from_slice(&bytes[..16]);
+        evaluator.copy_from_slice(&bytes[16..]);
+        Self {
+            generator,
+            evaluator,
+        }
+    }
+
+    /// The bytes of the row pair.
+    #[must_use]
+    pub fn to_bytes(self) -> [u8; 32] {
+        let mut bytes = [0; 32];
+        bytes[..16].copy_from_slice(&self.generator);
+        bytes[16..].copy_from_slice(&self.evaluator);
+        bytes
+    }
+}
+
+impl From<[u8; 32]> for RowPair {
+    fn from(bytes: [u8; 32]) -> Self {
+        Self::from_bytes(bytes)
+    }
+}
+
+impl From<RowPair> for [u8; 32] {
+    fn from(pair: RowPair) -> Self {
+        pair.to_bytes()
+    }
 }
 
 /// The version of a garbled file.

@@ -156,9 +156,14 @@ fn check_link(vector: Vector, offset: &Label) -> Result<(), Fault> {
     let rows: Vec<u8> = garbling
         .rows()?
         .iter()
-        .flat_map(|it| [it.generator, it.evaluator].concat())
+        .flat_map(|it| it.to_bytes())
         .collect();
     assert_eq!(rows, vector.bytes("rows"));
+    let again: Vec<RowPair> = rows
+        .chunks_exact(32)
+        .map(|it| RowPair::from(<[u8; 32]>::try_from(it).unwrap()))
+        .collect();
+    assert_eq!(garbling.rows()?, again);
     assert_eq!(garbling.offset()?, *offset);
     assert_eq!(
         garbling.decode_bits()?,

@@ -59,6 +59,9 @@ void check_types() {
     static_assert(!std::is_convertible<not_bytes &, view>::value, "data() isn't a pointer");
     static_assert(!std::is_constructible<circuit, int>::value, "a number is no text");
     static_assert(!std::is_constructible<circuit, not_bytes>::value, "data() isn't a pointer");
+    static_assert(!std::is_constructible<circuit, std::vector<bool>>::value, "bits are no text");
+    static_assert(!std::is_convertible<const char *, circuit>::value, "a text isn't read by accident");
+    static_assert(!std::is_convertible<circuit, bool>::value, "a handle isn't compared by accident");
     static_assert(!decltype(takes_nothing<halfgates::seed>(0))::value, "no seed is made by accident");
     static_assert(!std::is_constructible<halfgates::seed, std::array<std::uint8_t, 32>>::value, "by name alone");
     static_assert(!std::is_copy_constructible<circuit>::value, "handles aren't copied");
@@ -126,6 +129,33 @@ void check_inputs() {
     CHECK(circuit.plain(std::string("\0\1\1", 3)) == expected);
 }
 
+/* A text may end with a zero byte. */
+void check_texts() {
+    char and_gate[] = "1 3\n2 1 1\n1 1\n2 1 0 1 2 AND";
+    CHECK(halfgates::circuit(FULL_ADDER).digest() == halfgates::circuit(TEXT).digest());
+    CHECK(halfgates::circuit("1 3\n2 1 1\n1 1\n2 1 0 1 2 AND").numbers().and_gates == 1);
+    CHECK(halfgates::circuit(and_gate).numbers().and_gates == 1);
+    CHECK(halfgates::locate(FULL_ADDER).fault == 0 && halfgates::locate("1 5 x").column == 5);
+    throws(1, "fault 1 Truncated", [] { halfgates::circuit it(""); });
+    const char *none = nullptr;
+    throws(64, "fault 64 NullPointer", [&] { halfgates::circuit it(none); });
+    throws(64, "fault 64 NullPointer", [&] { (void)halfgates::locate(none); });
+}
+
+/* Bits may be of a vector<bool>, wherever bits are read. */
+void check_bits() {
+    const halfgates::circuit circuit(TEXT);
+    const halfgates::garbling garbling = circuit.garble(seed_of(1));
+    const std::vector<bool> bits = {false, true, true}, one = {true};
+    CHECK(circuit.plain(bits) == bytes({0, 1}));
+    CHECK(circuit.deal(seed_of(1), 0, one) == garbling.deal(0, {1}) && garbling.deal(0, one) == garbling.deal(0, {1}));
+    CHECK(garbling.labels(bits, 1, 1)[0].bit == 1 && garbling.labels(bits, 0, 1)[0].bit == 0);
+    const halfgates::labels zeros = {garbling.output_labels(0).zero[0], garbling.output_labels(0).zero[1]};
+    const bytes decoding = garbling.decode_bits();
+    CHECK(halfgates::decode(zeros, std::vector<bool>(decoding.begin(), decoding.end())) == bytes({0, 0}));
+    throws(16, "fault 16 WrongLength", [&] { (void)circuit.plain(std::vector<bool>()); });
+}
+
 void check_faults() {
     const halfgates::circuit circuit(TEXT);
     const halfgates::garbling garbling = circuit.garble(seed_of(0));
@@ -172,6 +202,28 @@ void check_moves() {
     CHECK(first.digest() == second.digest() && first.garble(seed_of(1)).write() == moved.write());
 }
 
+/* Handles of nothing can be assigned to, and are refused by calls until then. */
+void check_handles_of_nothing() {
+    halfgates::circuit circuit;
+    halfgates::garbling garbling;
+    halfgates::job job;
+    CHECK(!circuit && !garbling && !job);
+    CHECK(circuit.numbers().wires == 0 && circuit.input_widths().empty() && circuit.digest()[0] == 0);
+    throws(64, "fault 64 NullPointer", [&] { (void)circuit.plain({}); });
+    throws(64, "fault 64 NullPointer", [&] { (void)circuit.share(); });
+    throws(64, "fault 64 NullPointer", [&] { (void)garbling.write(); });
+    throws(64, "fault 64 NullPointer", [&] { (void)garbling.rows(); });
+    throws(64, "fault 64 NullPointer", [&] { (void)job.evaluate(); });
+    throws(64, "fault 64 NullPointer", [] { (void)halfgates::write_many(std::vector<halfgates::garbling>(1)); });
+    throws(64, "fault 64 NullPointer", [] { (void)halfgates::evaluate_many(std::vector<halfgates::job>(1)); });
+    circuit = halfgates::circuit(TEXT);
+    garbling = circuit.garble(seed_of(1));
+    job = circuit.bind(garbling.write(), {garbling.deal(0, {1}), garbling.deal(1, {0}), garbling.deal(2, {1})});
+    CHECK(circuit && garbling && job && job.evaluate() == bytes({0, 1}));
+    const halfgates::job moved = std::move(job);
+    CHECK(moved && !job);
+}
+
 } // namespace
 
 int main() {
@@ -179,7 +231,10 @@ int main() {
     check_seeds();
     check_sizes();
     check_inputs();
+    check_texts();
+    check_bits();
     check_faults();
     check_moves();
+    check_handles_of_nothing();
     return 0;
 }

@@ -1,4 +1,4 @@
-"""examples/netlist.py: the circuits that it makes of netlists of Yosys, by the program."""
+"""halfgates.convert: the circuits that it makes of netlists of Yosys, by the program."""
 import itertools
 import json
 import random
@@ -7,10 +7,12 @@ import subprocess
 import sys
 import unittest
 
+from library import environment_of_python, import_package
 from program import SEED, TOP, ProgramTest, text_of_lines
 from test_blocks import blocks
 
-from netlist import Unclear, read_netlist
+import_package()
+from halfgates.convert import ConversionError, convert  # noqa: E402
 
 AUCTION = TOP / "examples/verilog/auction"
 
@@ -135,13 +137,14 @@ def bits(number, width=8):
 
 class NetlistTest(ProgramTest):
     def convert(self, *words):
-        script = [sys.executable, TOP / "examples/netlist.py", *words]
-        return subprocess.run(script, cwd=self.folder, capture_output=True, text=True, check=False)
+        how = {"cwd": self.folder, "env": environment_of_python()}
+        words = [sys.executable, "-m", "halfgates.convert", *words]
+        return subprocess.run(words, capture_output=True, text=True, check=False, **how)
 
     def make(self, netlist):
         """Writes the circuit of a module, and returns what is printed."""
         self.put("n.json", json.dumps({"modules": {"m": netlist}}))
-        done = self.convert("n.json", "c.txt")
+        done = self.convert("n.json", "c.txt", "--check", "5")
         self.assertEqual((done.returncode, done.stderr), (0, ""))
         return done.stdout
 
@@ -199,6 +202,12 @@ class Netlists(NetlistTest):
         value = bits(random.Random(1).getrandbits(width), width)
         self.assert_outputs([value.translate({48: "1", 49: "0"})], value)
 
+    def test_cells_without_meaning_for_logic(self):
+        """They may read whatever they like."""
+        others = [{"type": kind, "connections": {"A": [99], "EN": ["1"]}} for kind in ("$scopeinfo", "$assert", "$print")]
+        self.make(module({"a": port("input", 2), "y": port("output", 3)}, cell("$_NOT_", 2, 3), *others))
+        self.assert_outputs(["0"], "1")
+
     def test_cells_out_of_order(self):
         count = 5000
         cells = [cell("$_NOT_", bit, bit + 1) for bit in range(2, 2 + count)][::-1]
@@ -236,7 +245,7 @@ class Netlists(NetlistTest):
         self.assertFalse((self.folder / "bad.txt").exists())
 
     def test_files_that_are_no_netlist(self):
-        for text in ("", "{}", "[]", "1 2", b"\xff", '{"modules": []}', '{"modules": {"m": 1}}', 100_000 * "["):
+        for text in ("{}", '{"modules": []}', '{"modules": {"m": 1}}', '{"modules": ' + 100_000 * "["):
             self.put("bad.json", text)
             self.assert_unclear(NONE, "bad.json", "bad.txt")
 
@@ -246,11 +255,10 @@ class Netlists(NetlistTest):
         whole = module(ports, cell("$_AND_", 2, 3, 4), netnames={"y": {"bits": [4]}}, attributes={"top": "1"})
         said = set()
         for text in variants({"modules": {"m": whole}}):
-            path = self.folder / self.put("bad.json", text)
             try:
-                read_netlist(path, None)
-            except Unclear as unclear:
-                said.add(str(unclear))
+                convert(text)
+            except ConversionError as error:
+                said.add(str(error))
         self.assertIn(NONE, said)
         self.assertGreater(len(said), 8)
 
