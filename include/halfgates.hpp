@@ -403,6 +403,26 @@ public:
         return other;
     }
 
+    /* The circuit with its gates in order of AND depth. It computes the same, and has another digest. */
+    HALFGATES_NODISCARD circuit order() const {
+        halfgates_circuit *at = nullptr;
+        check(halfgates_circuit_order(get(), &at));
+        circuit ordered;
+        ordered.take(at);
+        return ordered;
+    }
+
+    /* The canonical text. */
+    HALFGATES_NODISCARD bytes text() const {
+        std::size_t size = 0;
+        const std::int32_t code = halfgates_circuit_text(get(), nullptr, 0, &size);
+        if (code != HALFGATES_SMALL_BUFFER)
+            check(code);
+        bytes text(size);
+        check(halfgates_circuit_text(get(), text.data(), text.size(), &size));
+        return text;
+    }
+
     const halfgates_numbers &numbers() const noexcept { return shape_.numbers; }
     const std::vector<std::uint32_t> &input_widths() const noexcept { return shape_.input_widths; }
     const std::vector<std::uint32_t> &output_widths() const noexcept { return shape_.output_widths; }

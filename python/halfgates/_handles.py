@@ -66,6 +66,28 @@ class Circuit(Handle):
         it._describe(self._shape, self.digest)
         return it
 
+    def order(self) -> "Circuit":
+        """The circuit with its gates in order of AND depth, which can be garbled and evaluated in half the time.
+
+        It computes the same, and has another digest: each party needs it. It pays for single garblings and evaluations,
+        not for `garble_many` and `evaluate_many`. Fault: 62.
+        """
+        it = self._empty()
+        check(self._call(library.halfgates_circuit_order, byref(it._at)))
+        it._measure()
+        return it
+
+    def text(self) -> bytearray:
+        """The canonical text of the circuit, whose SHA-256 is the digest. Fault: 62."""
+        written = c_size_t()
+        code = self._call(library.halfgates_circuit_text, None, 0, byref(written))
+        if code != Code.SMALL_BUFFER:
+            check(code)
+        text = bytearray(written.value)
+        with Lent(text, is_written=True) as out:
+            check(self._call(library.halfgates_circuit_text, out.at, out.size, byref(written)))
+        return text
+
     def _measure(self) -> None:
         numbers, digest = _library.Numbers(), (c_uint8 * 32)()
         check(library.halfgates_circuit_numbers(self._at, numbers))

@@ -60,6 +60,8 @@ _FUNCTIONS: Dict[str, Tuple[Any, ...]] = {
     "is_memory": (c_int32, c_int32),
     "circuit_read": (c_int32, _BYTES, c_size_t, POINTER(_HANDLE)),
     "circuit_share": (c_int32, _HANDLE, POINTER(_HANDLE)),
+    "circuit_order": (c_int32, _HANDLE, POINTER(_HANDLE)),
+    "circuit_text": (c_int32, _HANDLE, _BYTES, c_size_t, _SIZE),
     "circuit_free": (None, _HANDLE),
     "circuit_numbers": (c_int32, _HANDLE, POINTER(Numbers)),
     "circuit_input_widths": (c_int32, _HANDLE, POINTER(c_uint32), c_size_t),

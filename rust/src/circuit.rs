@@ -65,6 +65,48 @@ impl Circuit {
         })
     }
 
+    /// The circuit with its gates in order of AND depth, which can be garbled and evaluated in half
+    /// the time.
+    ///
+    /// It computes the same, and has another digest: each party needs it. It pays for single
+    /// garblings and evaluations, not for [`garble_many`](Self::garble_many) and
+    /// [`evaluate_many`](crate::evaluate_many).
+    ///
+    /// # Errors
+    ///
+    /// [`Fault::MEMORY`].
+    #[doc(alias = "halfgates_circuit_order")]
+    pub fn order(&self) -> Result<Self, Fault> {
+        // SAFETY: the call writes a handle.
+        let handle =
+            unsafe { Handle::new(|it| sys::halfgates_circuit_order(self.handle.get(), it))? };
+        let shape = Arc::new(Shape::of(&handle)?);
+        Ok(Self { handle, shape })
+    }
+
+    /// The canonical text of the circuit.
+    ///
+    /// # Errors
+    ///
+    /// [`Fault::MEMORY`].
+    #[doc(alias = "halfgates_circuit_text")]
+    pub fn text(&self) -> Result<Vec<u8>, Fault> {
+        let (circuit, mut size, mut written) = (self.handle.get(), 0, 0);
+        // SAFETY: a buffer of size 0 can be NULL.
+        match Fault::check(unsafe {
+            sys::halfgates_circuit_text(circuit, ptr::null_mut(), 0, &mut size)
+        }) {
+            Ok(()) | Err(Fault::SMALL_BUFFER) => {}
+            Err(fault) => return Err(fault),
+        }
+        // SAFETY: the text has `size` bytes.
+        unsafe {
+            filled(size, |text| {
+                sys::halfgates_circuit_text(circuit, text, size, &mut written)
+            })
+        }
+    }
+
     /// The number of gates.
     #[must_use]
     pub fn gates(&self) -> usize {

@@ -112,6 +112,16 @@ extern "C" {
         circuit: *const halfgates_circuit,
         other: *mut *mut halfgates_circuit,
     ) -> i32;
+    pub fn halfgates_circuit_order(
+        circuit: *const halfgates_circuit,
+        ordered: *mut *mut halfgates_circuit,
+    ) -> i32;
+    pub fn halfgates_circuit_text(
+        circuit: *const halfgates_circuit,
+        buffer: *mut u8,
+        size: usize,
+        written: *mut usize,
+    ) -> i32;
     pub fn halfgates_circuit_free(circuit: *mut halfgates_circuit);
     pub fn halfgates_circuit_numbers(
         circuit: *const halfgates_circuit,
