@@ -3,6 +3,7 @@ Python: what vectors/joined.json and the reference say, and each refusal.
 """
 import threading
 import unittest
+from hashlib import sha256
 
 from inputs import by_about, draw_values, draws, load
 from library import import_package
@@ -254,6 +255,22 @@ class Sharing(LabelsTest):
                 self.assertEqual(shared.garble(SEED).write(), expected)
             self.assertRaises(ValueError, shared.garble, SEED)
             self.assertRaises(ValueError, third.garble, SEED)
+
+    def test_an_ordered_circuit(self):
+        """The AND gate comes after the gates of AND depth 0."""
+        lines = FULL_ADDER.splitlines(keepends=True)
+        lines[6], lines[7] = lines[7], lines[6]
+        with Circuit.from_text(FULL_ADDER) as circuit, circuit.order() as ordered:
+            self.assertEqual(circuit.text(), FULL_ADDER.encode())
+            self.assertEqual(ordered.text(), "".join(lines).encode())
+            self.assertEqual(ordered.digest, sha256(ordered.text()).digest())
+            self.assertEqual((ordered.gates, ordered.and_gates, ordered.input_widths), (5, 1, (1, 1, 1)))
+            self.assertEqual(ordered.order().text(), ordered.text())
+            for n in range(8):
+                bits = halfgates.to_bits(n, 3)
+                self.assertEqual(ordered.plain(bits), circuit.plain(bits))
+        self.assertRaises(ValueError, circuit.order)
+        self.assertRaises(ValueError, circuit.text)
 
     def test_several_threads(self):
         found = []

@@ -2,6 +2,7 @@
 
 use std::fmt;
 use std::mem::{size_of, size_of_val};
+use std::ptr;
 use std::sync::Arc;
 
 use crate::call::{bits_of, filled, room, Handle};

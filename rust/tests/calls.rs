@@ -557,6 +557,21 @@ fn shared_circuits_on_threads() {
     }
 }
 
+/// The AND gate comes after the gates of AND depth 0.
+#[test]
+fn an_ordered_circuit() {
+    let circuit = adder();
+    let ordered = circuit.order().unwrap();
+    let mut lines: Vec<_> = FULL_ADDER.split_inclusive('\n').collect();
+    lines.swap(6, 7);
+    assert_eq!(circuit.text().unwrap(), FULL_ADDER.as_bytes());
+    assert_eq!(ordered.text().unwrap(), lines.concat().into_bytes());
+    assert_ne!(ordered.digest(), circuit.digest());
+    assert_eq!((ordered.gates(), ordered.and_gates()), (5, 1));
+    assert_eq!(ordered.plain(&BITS), circuit.plain(&BITS));
+    assert_eq!(ordered.order().unwrap().text(), ordered.text());
+}
+
 #[test]
 fn handles_dropped_in_any_order_and_on_other_threads() {
     let circuit = adder();

@@ -202,6 +202,19 @@ void check_moves() {
     CHECK(first.digest() == second.digest() && first.garble(seed_of(1)).write() == moved.write());
 }
 
+/* In order of AND depth the AND gate comes after three gates of depth 0. */
+void check_order() {
+    const halfgates::circuit circuit(TEXT);
+    const halfgates::circuit ordered = circuit.order();
+    CHECK(ordered.text() != circuit.text() && ordered.digest() != circuit.digest());
+    CHECK(halfgates::circuit(ordered.text()).digest() == ordered.digest());
+    CHECK(ordered.order().text() == ordered.text());
+    CHECK(ordered.numbers().and_gates == 1 && ordered.input_widths() == circuit.input_widths());
+    CHECK(ordered.plain({1, 0, 1}) == circuit.plain({1, 0, 1}));
+    throws(64, "fault 64 NullPointer", [&] { (void)halfgates::circuit().order(); });
+    throws(64, "fault 64 NullPointer", [&] { (void)halfgates::circuit().text(); });
+}
+
 /* Handles of nothing can be assigned to, and are refused by calls until then. */
 void check_handles_of_nothing() {
     halfgates::circuit circuit;
@@ -235,6 +248,7 @@ int main() {
     check_bits();
     check_faults();
     check_moves();
+    check_order();
     check_handles_of_nothing();
     return 0;
 }
