@@ -138,25 +138,30 @@ def command_line():
             help="write N copies, one after another, each on values of its own: first the values of"
             " the first copy (the program takes 256 values at most)",
         )
+        command.add_argument(
+            "--by-depth",
+            action="store_true",
+            help="write the gates in order of AND depth, as the program's `order` does: garbling and"
+            " evaluating the circuit then takes less time",
+        )
     return parser.parse_args()
 
 
-def write(path, times, name, *numbers):
+def write(path, name, *numbers, **how):
     """Writes the circuit of this name."""
     make, _ = CIRCUITS[name]
     with path.open("w") as file:
-        make(*numbers).write(file, times)
+        make(*numbers).write(file, **how)
 
 
 def main():
     words = command_line()
     if words.name is None:
         for file, name in UNNAMED.items():
-            write(Path(__file__).with_name(file), 1, name)
-    elif words.name == "chains":
-        write(words.file, words.times, words.name, words.count, words.length)
-    else:
-        write(words.file, words.times, words.name)
+            write(Path(__file__).with_name(file), name)
+        return
+    numbers = (words.count, words.length) if words.name == "chains" else ()
+    write(words.file, words.name, *numbers, times=words.times, by_depth=words.by_depth)
 
 
 if __name__ == "__main__":

@@ -74,15 +74,32 @@ class Builder:
                 taken.add(wire)
                 self.outputs[-1].append(wire)
 
-    def write(self, file, times=1):
-        """Writes copies of the circuit, one after another, each with values of its own."""
+    def write(self, file, times=1, by_depth=False):
+        """Writes copies of the circuit, each with values of its own: one after another, or all in
+        order of AND depth, as the program's `order` would.
+        """
         output_widths = [len(value) for value in self.outputs]
         file.write(f"{times * len(self.gates)} {times * self.wires}\n")
         for widths in (times * list(self.input_widths), times * output_widths):
             file.write(f"{len(widths)} {' '.join(map(str, widths))}\n")
         file.write("\n")
-        for copy in range(times):
-            file.writelines(self._lines(self._numbers(copy, times)))
+        copies = [self._numbers(copy, times) for copy in range(times)]
+        if by_depth:
+            parts = [(gates, numbers) for gates in self._by_rank() for numbers in copies]
+        else:
+            parts = [(self.gates, numbers) for numbers in copies]
+        for gates, numbers in parts:
+            file.writelines(self._lines(gates, numbers))
+
+    def _by_rank(self):
+        """The gates by AND depth, those of one depth in two lists: AND gates, and the others."""
+        depths, ranks = [0] * self.wires, {}
+        for gate in self.gates:
+            name, wire, *read = gate
+            wires = [] if name == "EQ" else [it for it in read if it is not None]
+            depths[wire] = max((depths[it] for it in wires), default=0) + (name == "AND")
+            ranks.setdefault((depths[wire], name != "AND"), []).append(gate)
+        return [ranks[rank] for rank in sorted(ranks)]
 
     def _numbers(self, copy, times):
         """The number that each wire of a copy has in the file: inputs first, and outputs last."""
@@ -96,9 +113,9 @@ class Builder:
         inner = count(times * self.input_wires + copy * (before_outputs - self.input_wires))
         return [next(inner) if number is None else number for number in numbers]
 
-    def _lines(self, numbers):
-        """A line for each gate."""
-        for name, wire, a, b in self.gates:
+    def _lines(self, gates, numbers):
+        """A line for each of these gates."""
+        for name, wire, a, b in gates:
             if b is not None:
                 yield f"2 1 {numbers[a]} {numbers[b]} {numbers[wire]} {name}\n"
             else:
