@@ -66,6 +66,7 @@ eq 0
 eqw 0
 depth 1
 and_depth 0
+level_width 0
 unread 0
 garbled1 81
 garbled2 113

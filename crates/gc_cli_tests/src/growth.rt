@@ -72,8 +72,14 @@ const NO_FAULT: Part = (52, 1);
 /// A depth and a mark for each wire.
 const STATS: Part = (13, 2);
 
-/// 84 bytes, in room for 8, 16, 32, 64 and 128.
+/// 98 bytes, in room for 8, 16, 32, 64 and 128.
 const STATS_LINES: Part = (52, 5);
+
+/// A depth for each wire, a rank for each gate, a place for each rank, the gates, and the widths of either side.
+const ORDERING: Part = (13, 6);
+
+/// 87 bytes, in room for 8, 16, 32 and all.
+const TEXT: Part = (13, 4);
 
 /// The bits of all wires.
 const WIRE_BITS: Part = (13, 1);
@@ -90,7 +96,7 @@ const JOBS_EVALUATION: [Part; 2] = [(0, 4), (46, 1)];
 
 /// Orders over the full adder, what each prints, and the parts of its work. What a sink takes is the files' own memory.
 /// Two threads read the files of `eval`, in no order: `refusals` has it.
-static ORDERS: [(&[&str], &str, &[&[Part]]); 10] = [
+static ORDERS: [(&[&str], &str, &[&[Part]]); 11] = [
     (
         &["run", "c.txt", SEED, "1", "0", "1"],
         "01\n",
@@ -108,6 +114,11 @@ static ORDERS: [(&[&str], &str, &[&[Part]]); 10] = [
         &[&FIRST, &VALUES, &[PLAIN_EVALUATION, OUTPUT_LINE]],
     ),
     (&["check", "c.txt"], ADDER_LINES, &[&FIRST, &[CHECK_LINES]]),
+    (
+        &["order", "c.txt", "out"],
+        "wrote 87\n",
+        &[&FIRST, &[ORDERING, TEXT, OUTPUT_LINE]],
+    ),
     (
         &["garble", "c.txt", SEED, "out"],
         "wrote 177\n",
@@ -162,6 +173,7 @@ eq 0
 eqw 0
 depth 3
 and_depth 1
+level_width 1
 unread 0
 garbled1 113
 garbled2 177
