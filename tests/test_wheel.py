@@ -185,6 +185,21 @@ class Installed(WheelTest):
         self.assertEqual((done.returncode, done.stderr), (0, ""))
         self.assertEqual(made.read_bytes(), (EXAMPLES / "full_adder.txt").read_bytes())
 
+    def test_commands(self):
+        """They are those of an installed program, with the words as they are."""
+        self.install(self.wheel)
+        words = [self.venv / "bin/python", "-m", "halfgates", "run", "a  b", "*"]
+        place = self.folder / "bin"
+        how = {"env": {**self.environment, "PATH": str(place)}, "cwd": self.folder}
+        done = run(*words, **how)
+        self.assertEqual((done.returncode, done.stdout), (127, ""))
+        self.assertRegex(done.stderr, "^halfgates: the program isn't part of this package: .*\n$")
+        place.mkdir()
+        (place / "halfgates").write_text("#!/bin/sh\nprintf '<%s>' \"$@\"\nexit 3\n")
+        (place / "halfgates").chmod(0o755)
+        done = run(*words, **how)
+        self.assertEqual((done.returncode, done.stdout, done.stderr), (3, "<run><a  b><*>", ""))
+
     def test_the_sources(self):
         """They install the files of the wheel for this machine."""
         self.install(TOP / "python")
@@ -200,6 +215,9 @@ class Installed(WheelTest):
         code = "import halfgates; print(halfgates.__file__)"
         done = run(self.venv / "bin/python", "-c", code, cwd=self.folder, env=environment)
         self.assertEqual((done.stdout, done.stderr), (f"{TOP}/python/halfgates/__init__.py\n", ""))
+        words = "plain", EXAMPLES / "full_adder.txt", "1", "0", "1"
+        done = run(self.venv / "bin/python", "-m", "halfgates", *words, cwd=self.folder, env=environment)
+        self.assertEqual((done.stdout, done.stderr), ("01\n", ""))
 
 
 class Paths(unittest.TestCase):
