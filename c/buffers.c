@@ -20,6 +20,8 @@ void free(void *block);
 
 PROVED(halfgates_circuit_read);
 PROVED(halfgates_circuit_share);
+PROVED(halfgates_circuit_order);
+PROVED(halfgates_circuit_text);
 PROVED(halfgates_circuit_numbers);
 PROVED(halfgates_circuit_digest);
 PROVED(halfgates_garble);
@@ -73,6 +75,16 @@ int32_t halfgates_circuit_read(const uint8_t *text, size_t length, halfgates_cir
 
 int32_t halfgates_circuit_share(const halfgates_circuit *circuit, halfgates_circuit **other) {
     return proved_halfgates_circuit_share(LENT(circuit), other);
+}
+
+int32_t halfgates_circuit_order(const halfgates_circuit *circuit, halfgates_circuit **ordered) {
+    return proved_halfgates_circuit_order(LENT(circuit), ordered);
+}
+
+int32_t halfgates_circuit_text(const halfgates_circuit *circuit, uint8_t *buffer, size_t size, size_t *written) {
+    if (!is_there(buffer, size))
+        return HALFGATES_NULL_POINTER;
+    return proved_halfgates_circuit_text(LENT(circuit), buffer, size, written);
 }
 
 int32_t halfgates_circuit_numbers(const halfgates_circuit *circuit, halfgates_numbers *numbers) {

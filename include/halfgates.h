@@ -174,6 +174,15 @@ int32_t halfgates_circuit_read(const uint8_t *text, size_t length, halfgates_cir
  */
 int32_t halfgates_circuit_share(const halfgates_circuit *circuit, halfgates_circuit **other);
 
+/*
+ * Writes a handle of the circuit with its gates in order of AND depth: the gates that set wires of one AND depth follow
+ * one another, its AND gates first, each kind in file order. It has the same gates and computes the same. One garbling
+ * or one evaluation of it can take half the time; halfgates_garble_many and halfgates_evaluate_many gain nothing. Its
+ * digest and the numbers of its AND gates are others, so both parties need it: the evaluator orders too, or reads the
+ * text that halfgates_circuit_text writes. Code: HALFGATES_MEMORY.
+ */
+int32_t halfgates_circuit_order(const halfgates_circuit *circuit, halfgates_circuit **ordered);
+
 /* Frees a circuit. Its garblings, its jobs and its other handles stay as they are. */
 void halfgates_circuit_free(halfgates_circuit *circuit);
 
@@ -200,6 +209,13 @@ int32_t halfgates_circuit_output_widths(const halfgates_circuit *circuit, uint32
 
 /* Writes the digest of a circuit, the SHA-256 of its canonical text, 32 bytes. It was taken when the text was read. */
 int32_t halfgates_circuit_digest(const halfgates_circuit *circuit, uint8_t digest[32]);
+
+/*
+ * Writes the canonical text of a circuit to `buffer`, and the number of its bytes to `written`. No zero byte follows
+ * it. Codes: HALFGATES_MEMORY; HALFGATES_SMALL_BUFFER, where `written` is the size that is needed. The text is made in
+ * memory first, so a call with size 0 takes as long.
+ */
+int32_t halfgates_circuit_text(const halfgates_circuit *circuit, uint8_t *buffer, size_t size, size_t *written);
 
 /* No gate, no wire or no output. */
 #define HALFGATES_NONE UINT32_MAX

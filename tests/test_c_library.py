@@ -10,14 +10,16 @@ import unittest
 from pathlib import Path
 from shutil import which
 
-from inputs import worked_circuits
+from inputs import draws, respelled, worked_circuits
 from library import (
     ARCHIVE, INCLUDE, LIB_DIR, LIBRARY, SONAME, WARNINGS, build, compiler, demand_library, environment_of_python,
     sanitizers, shared_library, tool,
 )
 from program import EXAMPLES, TOP, sealed
+from test_workers import layered
 
 import bristol
+import cases
 import reference
 
 SOURCES = TOP / "tests/c"
@@ -98,6 +100,15 @@ class FromC(LibraryTest):
                 for file, data in files_of(vector, evaluation).items():
                     (folders[-1] / file).write_bytes(data)
         self.run_built(SOURCES / "worked.c", *folders)
+
+    def test_circuits_in_order(self):
+        folders = []
+        for number, circuit in enumerate(circuits_to_order()):
+            folders.append(self.folder / f"order{number}")
+            folders[-1].mkdir()
+            for file, data in files_of_order(number, circuit).items():
+                (folders[-1] / file).write_bytes(data)
+        self.run_built(SOURCES / "ordered.c", *folders)
 
     def test_bad_arguments(self):
         self.run_built(SOURCES / "arguments.c")
@@ -372,6 +383,27 @@ def files_of(vector, evaluation):
         "bits": as_bits(evaluation["values"]),
         "labels": bytes.fromhex("".join(evaluation["label_files"])),
         "outputs": as_bits(evaluation["outputs"]),
+    }
+
+
+def circuits_to_order():
+    """The texts of random circuits, in any spelling, and of circuits of many AND depths."""
+    for _, draw in draws(40, "order in C"):
+        text = cases.random_circuit(draw, draw.below(9), draw.below(61), draw.below(2))
+        yield respelled(draw, text).encode()
+        yield layered(draw, [20 * [6]]).encode()
+
+
+def files_of_order(number, text):
+    """The files of a circuit, as ordered.c reads them."""
+    circuit = bristol.read_circuit(text)
+    values = [[(number + i) // 3 % 2 for i in range(width)] for width in circuit.input_widths]
+    return {
+        "circuit": text,
+        "canonical": bristol.canonical_text(circuit),
+        "ordered": bristol.canonical_text(bristol.order_by_depth(circuit)),
+        "bits": bytes(bit for bits in values for bit in bits),
+        "outputs": bytes(bristol.plain_eval(circuit, values)),
     }
 
 

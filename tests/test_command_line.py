@@ -1,8 +1,10 @@
 """The words of the command line: help, orders, and words that are no order."""
 import re
+import subprocess
+import sys
 import unittest
 
-from program import FULL_ADDER, SEED, TOP, XOR, ProgramTest
+from program import FULL_ADDER, PROGRAM, SEED, TOP, XOR, ProgramTest
 
 RUN_HELP = """\
 Garbles a circuit and evaluates the garbled circuit on the given values
@@ -45,6 +47,7 @@ Commands:
   check   Prints the size and the digest of a circuit
   locate  Prints where the first fault of a circuit's text is
   stats   Prints the gates, the depths and the file sizes of a circuit
+  order   Writes a circuit with its gates in order of AND depth into a file
   garble  Garbles a circuit into a file
   deal    Writes the labels of an input value into a file
   eval    Evaluates a garbled circuit, from a garbled file and label files
@@ -99,6 +102,8 @@ NO_ORDERS = [
     (["check", "c.txt", "1"], one_more("check [OPTIONS] <CIRCUIT>")),
     (["locate", "c.txt", "1"], one_more("locate [OPTIONS] <CIRCUIT>")),
     (["stats", "c.txt", "1"], one_more("stats [OPTIONS] <CIRCUIT>")),
+    (["order", "c.txt", "out", "1"], one_more("order [OPTIONS] <CIRCUIT> <OUT>")),
+    (["order", "c.txt"], missing("OUT", "order <CIRCUIT> <OUT>")),
     (["locate"], missing("CIRCUIT", "locate <CIRCUIT>")),
     (["stats"], missing("CIRCUIT", "stats <CIRCUIT>")),
     (["labels", "c.txt"], missing("SEED", "labels <CIRCUIT> <SEED> [VALUES]...")),
@@ -189,13 +194,22 @@ class CommandLine(ProgramTest):
                     self.run_program(*words[:3], index, value, file)
 
     def test_the_manual_names_the_words_as_help_does(self):
-        page = (TOP / "dist/halfgates.1").read_text()
+        """The page of the last release, and the one that the script makes of the program under test."""
+        self.assert_page_names_words((TOP / "dist/halfgates.1").read_text(), TOP / "dist/halfgates")
+        words = [sys.executable, TOP / "scripts/manual.py", PROGRAM]
+        page = subprocess.run(words, capture_output=True, text=True, check=True).stdout
+        self.assert_page_names_words(page, PROGRAM)
+
+    def assert_page_names_words(self, page, program):
+        def said(*words):
+            return subprocess.run([program, *words], capture_output=True, text=True, check=True).stdout
+
         sections = re.findall(r"^\.SS halfgates (\w+) (.*\n(?:(?!\.S[SH]).*\n)*)", page, re.M)
-        self.assertEqual({name for name, _ in sections}, set(documented_commands()))
+        self.assertEqual([name for name, _ in sections], re.findall(r"^  (\w+) {2,}", said("--help"), re.M))
         for name, section in sections:
             usage, *lines = section.replace("\\-", "-").splitlines()
             terms = [line.removeprefix(".B ") for line in lines if line.startswith(".B ")]
-            _, text, _ = self.run_program(name, "--help")
+            text = said(name, "--help")
             self.assertIn(f"Usage: halfgates {name} {usage}\n", text)
             self.assertEqual(terms, [term for term in help_terms(text) if "--help" not in term])
 

@@ -180,6 +180,7 @@ class Circuits(ProgramTest):
             self.assert_fault(fault, "eval", "c.txt", "no file")
             self.assert_fault(fault, "jobs", "c.txt", "no file")
             self.assert_fault(fault, "stats", "c.txt")
+            self.assert_fault(fault, "order", "c.txt", "no folder/out")
             self.assert_fault(fault, "labels", "c.txt", "0", "2")
             self.assert_fault(fault, "audit", "c.txt", "0", "no file")
 
@@ -333,7 +334,7 @@ class LongFiles(ProgramTest):
         self.put("list", "long label")
         with open(self.folder / "long", "wb") as file:
             file.truncate(8 << 30)
-        for words in (("stats", "long"), ("jobs", "c.txt", "long"), ("jobs", "c.txt", "list")):
+        for words in (("stats", "long"), ("order", "long", "out"), ("jobs", "c.txt", "long"), ("jobs", "c.txt", "list")):
             self.assertEqual(self.run_program(*words, preexec_fn=little_memory), fails("52 Memory"), words)
 
 
@@ -682,6 +683,7 @@ class Disk(ProgramTest):
             ("jobs", "c.txt", "list"),
             ("locate", "no file"),
             ("stats", "."),
+            ("order", "no file", "out"),
             ("labels", "no file", SEED, "1", "0"),
             ("audit", "c.txt", SEED, "no folder/g"),
         ]:
@@ -689,7 +691,7 @@ class Disk(ProgramTest):
 
     def test_a_file_that_cannot_be_written(self):
         self.put("c.txt", XOR)
-        for words in ("garble", "c.txt", SEED), ("deal", "c.txt", SEED, "0", "1"):
+        for words in ("order", "c.txt"), ("garble", "c.txt", SEED), ("deal", "c.txt", SEED, "0", "1"):
             for out in "no folder/out", ".", *([FULL] if FULL.is_char_device() else []):
                 self.assert_fault("51 CannotWrite", *words, out)
 
@@ -702,6 +704,7 @@ class Disk(ProgramTest):
             ("check", "c.txt"),
             ("locate", "c.txt"),
             ("stats", "c.txt"),
+            ("order", "c.txt", "out"),
             ("labels", "c.txt", SEED, "1", "1"),
             ("audit", "c.txt", SEED, "g"),
             ("--help",),

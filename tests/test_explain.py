@@ -22,6 +22,7 @@ COMMANDS = {
     "plain": ("1", "0"),
     "check": (),
     "stats": (),
+    "order": ("out",),
     "garble": (SEED, "out"),
     "deal": (SEED, "1", "0", "out"),
     "eval": ("g", "a", "b"),
@@ -409,6 +410,7 @@ class Explain(ProgramTest):
         ]
         for out, cause in causes:
             line = f"{out}: the file can't be written: {cause}"
+            self.assert_explained("51 CannotWrite", line, "order", "c.txt", out)
             self.assert_explained("51 CannotWrite", line, "garble", "c.txt", SEED, out)
             self.assert_explained("51 CannotWrite", line, "deal", "c.txt", SEED, "1", "0", out)
 

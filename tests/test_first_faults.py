@@ -29,6 +29,7 @@ WORDS = {
     "jobs": {"CIRCUIT": "c.txt", "LIST": "list", "--workers": "2"},
     "locate": {"CIRCUIT": "c.txt"},
     "stats": {"CIRCUIT": "c.txt"},
+    "order": {"CIRCUIT": "c.txt", "OUT": "g"},
     "labels": {
         "CIRCUIT": "c.txt",
         "SEED": SEED,
@@ -130,6 +131,7 @@ FAULTS = {
     # What is wrong with a circuit is what it prints.
     "locate": [Bad("CIRCUIT", "no_file", "50 CannotRead")],
     "stats": CIRCUIT_FAULTS,
+    "order": [*CIRCUIT_FAULTS, *OUT_FAULTS],
     "labels": [
         Bad("--from", "x", USAGE),
         Bad("--count", "1.5", USAGE),

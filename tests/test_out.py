@@ -1,4 +1,4 @@
-"""The file OUT of `garble` and `deal`: names that are refused, and that it is replaced at once."""
+"""The file OUT of `garble`, `deal` and `order`: names that are refused, and that it is replaced at once."""
 import ctypes
 import os
 import platform
@@ -21,7 +21,7 @@ GARBLED = reference.garbled_file(CIRCUIT, reference.garble(CIRCUIT, bytes(32)), 
 UNWRITTEN = fails("51 CannotWrite")
 
 # The words before OUT.
-WRITERS = ("garble", "c.txt", SEED), ("deal", "c.txt", SEED, "0", "1")
+WRITERS = ("garble", "c.txt", SEED), ("deal", "c.txt", SEED, "0", "1"), ("order", "c.txt")
 
 STANDARD_OUTPUT = "/dev/stdout", "/dev/fd/1", "/proc/self/fd/1", "/dev/../dev/stdout"
 

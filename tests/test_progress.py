@@ -24,6 +24,8 @@ READING = "step 1 of 3, reading the circuit"
 READING_FILES = "step 2 of 3, reading the files"
 READING_JOB = "step 2 of 3, reading job 2 of 2"
 WRITING = "step 3 of 3, writing the garbled file"
+READING_OF_TWO = "step 1 of 2, reading the circuit"
+ORDERING = "step 2 of 2, ordering the gates"
 
 
 def read_piece(terminal):
@@ -92,6 +94,7 @@ class Progress(ProgramTest):
         self.put("slow_list", f"{files}\n{' '.join(['slow_job', *labels])}")
         checked, wrote = self.run_program("check", "adder"), prints(f"wrote {len(data)}\n")
         audited = self.run_program("audit", "adder", SEED, garbled, *labels)
+        put_in_order = self.run_program("order", "adder", "ordered")
         job, taken = f"{outputs}\n", []
         rows = [
             ("a", CHECKING, checked, FULL_ADDER, "check", "a"),
@@ -103,6 +106,8 @@ class Progress(ProgramTest):
             ("g", READING_FILES, audited, data, "audit", "adder", SEED, "g", *labels),
             ("slow_job", READING_JOB, prints(2 * job), data, "jobs", "adder", "slow_list"),
             ("h", WRITING, wrote, None, "garble", "adder", SEED, "h"),
+            ("i", READING_OF_TWO, put_in_order, FULL_ADDER, "order", "i", "made_in_order"),
+            ("j", ORDERING, put_in_order, None, "order", "adder", "j"),
         ]
 
         def check(pipe, line, ending, content, *words):
@@ -119,7 +124,7 @@ class Progress(ProgramTest):
         with ThreadPoolExecutor(len(rows)) as pool:
             for outcome in [pool.submit(check, *row) for row in rows]:
                 outcome.result()
-        self.assertEqual(taken, [data])
+        self.assertEqual(sorted(taken), sorted([data, self.bytes_of("ordered")]))
 
     def test_the_line_is_drawn_again(self):
         """Within a second and a half it is drawn twice more, and tells another second."""

@@ -49,8 +49,9 @@ def layered(draw, groups):
     return text_of([64], [len(gates)], gates)
 
 
-# The first four go by layers. The others go through a store or a board by a few workers, and by one
-# worker all go on one thread.
+# Shapes of circuits: in the first three a worker's share of the gates reads wires of the others' shares,
+# so any number of workers leaves them to one thread. A few workers share the others, in which the
+# groups are independent, through a store or at a board.
 LAYERED = [
     [20 * [100]],
     [[1, 2, 3, 16, 17, 63, 64, 65, 1023, 1024, 1025]],

@@ -151,7 +151,7 @@ def is_set(circuit, targets, wire):
 
 def and_count(circuit):
     """The number of AND gates."""
-    return sum(gate.operation == "AND" for gate in circuit.gates)
+    return sum(map(is_and, circuit.gates))
 
 
 def canonical_text(circuit):
@@ -198,31 +198,54 @@ def plain_eval(circuit, values):
     return [on_wires[wire] for wire in output_wires(circuit)]
 
 
-def depth(circuit, counts):
-    """The greatest depth of a set wire, of which input wires have 0.
+def is_and(gate):
+    """Whether the gate is an AND gate."""
+    return gate.operation == "AND"
+
+
+def depths(circuit, counts):
+    """The depth of each set wire, of which input wires have 0.
 
     A gate that counts sets a wire that is one deeper than the deepest wire that it reads, and any
     other gate sets one as deep as that.
     """
-    depths = walk(circuit, [0 for _ in input_wires(circuit)],
-                  lambda gate, *read: counts(gate) + max(read, default=0))
-    return max(depths.values(), default=0)
+    return walk(circuit, [0 for _ in input_wires(circuit)],
+                lambda gate, *read: counts(gate) + max(read, default=0))
+
+
+def greatest(on_wires):
+    """The greatest of the numbers on the wires."""
+    return max(on_wires.values(), default=0)
+
+
+def order_by_depth(circuit):
+    """The circuit with its gates in order of AND depth, of one depth the AND gates first.
+
+    Gates of one depth that are both AND, or both others, stay in file order.
+    """
+    and_depths = depths(circuit, is_and)
+    gates = sorted(circuit.gates, key=lambda gate: (and_depths[gate.target], not is_and(gate)))
+    return circuit._replace(gates=gates)
 
 
 def statistics(circuit):
     """The gates by operation, the depths, and the sizes of the garbled files of either version.
 
-    A gate is unread where no gate reads the wire that it sets, and the wire is no output.
+    The width of a level is the number of AND gates for each AND depth, rounded down, and 0 where
+    there are none. A gate is unread where no gate reads the wire that it sets, and the wire is no
+    output.
     """
     numbers = {name.lower(): sum(gate.operation == name for gate in circuit.gates)
                for name in FIRST_COUNTS}
     outputs = output_wires(circuit)
     used = {wire for gate in circuit.gates for wire in wires_read(gate)}.union(outputs)
+    and_depth = greatest(depths(circuit, is_and))
     size = 8 + 32 + 4 + 4 + 32 * numbers["and"] + (len(outputs) + 7) // 8 + 32
     return {
         **numbers,
-        "depth": depth(circuit, lambda gate: True),
-        "and_depth": depth(circuit, lambda gate: gate.operation == "AND"),
+        "depth": greatest(depths(circuit, lambda gate: True)),
+        "and_depth": and_depth,
+        "level_width": numbers["and"] // and_depth if and_depth else 0,
         "unread": sum(gate.target not in used for gate in circuit.gates),
         "garbled1": size,
         "garbled2": size + 32 * len(outputs),

@@ -27,7 +27,11 @@ static void circuits(halfgates_circuit *circuit) {
     CHECK_CODE(HALFGATES_CIRCUIT_TRUNCATED, halfgates_circuit_read(NULL, 0, &made));
     CHECK_CODE(HALFGATES_CIRCUIT_TRUNCATED, halfgates_circuit_read(text, 0, &made));
     CHECK_CODE(HALFGATES_BAD_NUMBER, halfgates_circuit_read((const uint8_t *)"1\0002", 3, &made));
+    CHECK_CODE(ABSENT, halfgates_circuit_order(NULL, &made));
+    CHECK_CODE(ABSENT, halfgates_circuit_order(circuit, NULL));
     CHECK(made == NULL);
+    CHECK_CODE(ABSENT, halfgates_circuit_text(NULL, room, sizeof room, &written));
+    CHECK_CODE(ABSENT, halfgates_circuit_text(circuit, room, sizeof room, NULL));
     CHECK_CODE(ABSENT, halfgates_locate(text, length, NULL));
     CHECK_CODE(HALFGATES_OK, halfgates_locate(NULL, 0, &place));
     CHECK(place.fault == HALFGATES_CIRCUIT_TRUNCATED && place.line == 1 && place.column == 1);
@@ -52,6 +56,10 @@ static void circuits(halfgates_circuit *circuit) {
     CHECK(halfgates_garbled_size(circuit, 0) == 0);
     CHECK(halfgates_garbled_size(circuit, 3) == 0);
     CHECK(halfgates_garbled_size(circuit, UINT32_MAX) == 0);
+    check_untouched();
+    CHECK_CODE(HALFGATES_SMALL_BUFFER, halfgates_circuit_text(circuit, room, length - 1, &written));
+    CHECK(written == length);
+    written = 7;
     check_untouched();
 }
 
@@ -219,6 +227,8 @@ static void other_types(void *circuit, void *garbling, void *job) {
     void *const no_jobs[2] = {circuit, garbling};
     for (int i = 0; i < 2; i++) {
         CHECK_CODE(OTHER, halfgates_circuit_share(no_circuits[i], &made));
+        CHECK_CODE(OTHER, halfgates_circuit_order(no_circuits[i], &made));
+        CHECK_CODE(OTHER, halfgates_circuit_text(no_circuits[i], room, sizeof room, &written));
         CHECK_CODE(OTHER, halfgates_circuit_numbers(no_circuits[i], &numbers));
         CHECK_CODE(OTHER, halfgates_circuit_input_widths(no_circuits[i], widths, 3));
         CHECK_CODE(OTHER, halfgates_circuit_output_widths(no_circuits[i], widths, 1));

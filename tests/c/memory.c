@@ -180,6 +180,19 @@ static void evaluate_many(halfgates_circuit *circuit) {
     }
 }
 
+/* The XOR gate that reads input wires alone comes before the AND gate. */
+static void order(const halfgates_circuit *circuit) {
+    const char expected[] = "5 8\n3 1 1 1\n1 2\n\n2 1 0 2 3 XOR\n2 1 1 2 4 XOR\n2 1 3 1 6 XOR\n2 1 3 4 5 AND\n"
+                            "2 1 5 2 7 XOR\n";
+    halfgates_circuit *ordered = NULL;
+    uint8_t text[100];
+    size_t written;
+    CALL(halfgates_circuit_order(circuit, &ordered));
+    CALL(halfgates_circuit_text(ordered, text, sizeof text, &written));
+    CHECK(written == strlen(expected) && memcmp(text, expected, written) == 0);
+    halfgates_circuit_free(ordered);
+}
+
 /* All calls that allocate. */
 static void work(void) {
     const uint8_t *text = (const uint8_t *)FULL_ADDER, seed[32] = {5}, bits[3] = {1, 0, 1};
@@ -196,6 +209,7 @@ static void work(void) {
 
     CALL(halfgates_locate(text, strlen(FULL_ADDER), &place));
     CALL(halfgates_circuit_read(text, strlen(FULL_ADDER), &circuit));
+    order(circuit);
     CALL(halfgates_plain(circuit, bits, 3, outputs, 2));
     CHECK(outputs[0] == 0 && outputs[1] == 1);
     CALL(halfgates_garble(circuit, seed, &garbling));

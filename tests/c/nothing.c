@@ -5,7 +5,7 @@ static const uint8_t SEED[32] = {1}, OFFSET[16] = {1};
 
 /* Garbling and evaluating without a buffer, but those of the files. */
 static void check_circuit(const char *text, size_t values) {
-    halfgates_circuit *circuit = read_text(text);
+    halfgates_circuit *circuit = read_text(text), *ordered = NULL;
     halfgates_garbling *garbling = NULL, *own = NULL;
     halfgates_job *job = NULL;
     halfgates_audit_report report;
@@ -16,6 +16,10 @@ static void check_circuit(const char *text, size_t values) {
     CHECK_CODE(HALFGATES_OK, halfgates_circuit_input_widths(circuit, values ? widths : NULL, values));
     CHECK_CODE(HALFGATES_OK, halfgates_circuit_output_widths(circuit, NULL, 0));
     CHECK(values == 0 || widths[0] == 0);
+    CHECK_CODE(HALFGATES_SMALL_BUFFER, halfgates_circuit_text(circuit, NULL, 0, &size));
+    CHECK(size == 9 + 2 * values);
+    CHECK_CODE(HALFGATES_OK, halfgates_circuit_order(circuit, &ordered));
+    CHECK_CODE(HALFGATES_OK, halfgates_plain(ordered, NULL, 0, NULL, 0));
     CHECK_CODE(HALFGATES_OK, halfgates_plain(circuit, NULL, 0, NULL, 0));
     CHECK_CODE(HALFGATES_OK, halfgates_garble(circuit, SEED, &garbling));
     CHECK_CODE(HALFGATES_OK, halfgates_garble_many(circuit, NULL, 0, NULL));
@@ -47,6 +51,7 @@ static void check_circuit(const char *text, size_t values) {
     CHECK_CODE(HALFGATES_OK, halfgates_evaluate_many(NULL, 0, NULL, 0));
     CHECK_CODE(HALFGATES_OK, halfgates_job_output_labels(job, NULL, 0));
     halfgates_circuit_free(circuit);
+    halfgates_circuit_free(ordered);
     halfgates_garbling_free(garbling);
     halfgates_garbling_free(own);
     halfgates_job_free(job);

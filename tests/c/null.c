@@ -72,6 +72,8 @@ int main(int count, char **words) {
     CHECK_REFUSED(halfgates_circuit_input_widths, circuit, NULL, 1);
     CHECK_REFUSED(halfgates_circuit_input_widths, circuit, NULL, 3);
     CHECK_REFUSED(halfgates_circuit_output_widths, circuit, NULL, 1);
+    CHECK_REFUSED(halfgates_circuit_text, circuit, NULL, 1, &written);
+    CHECK_REFUSED(halfgates_circuit_text, circuit, NULL, 512, &written);
     CHECK_REFUSED(halfgates_plain, circuit, NULL, 1, room, 2);
     CHECK_REFUSED(halfgates_plain, circuit, NULL, 3, room, 2);
     CHECK_REFUSED(halfgates_plain, circuit, bits, 3, NULL, 1);

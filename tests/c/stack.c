@@ -40,6 +40,8 @@ static uint32_t widths[2];
     X(is_memory, halfgates_is_memory(62) - 1) \
     X(circuit_read, halfgates_circuit_read(text, length, MADE(circuit))) \
     X(circuit_share, halfgates_circuit_share(circuit, MADE(circuit))) \
+    X(circuit_order, halfgates_circuit_order(circuit, MADE(circuit))) \
+    X(circuit_text, halfgates_circuit_text(circuit, room, sizeof room, &written)) \
     X(circuit_numbers, halfgates_circuit_numbers(circuit, &numbers)) \
     X(circuit_input_widths, halfgates_circuit_input_widths(circuit, widths, 2)) \
     X(circuit_output_widths, halfgates_circuit_output_widths(circuit, widths, 1)) \

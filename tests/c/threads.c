@@ -59,6 +59,18 @@ struct shared {
     uint8_t garbled[177], zero[16], outputs[2];
 };
 
+static void order_once(const halfgates_circuit *circuit) {
+    halfgates_circuit *ordered = NULL;
+    uint8_t text[100];
+    size_t written;
+    CHECK_CODE(HALFGATES_OK, halfgates_circuit_order(circuit, &ordered));
+    CHECK_CODE(HALFGATES_OK, halfgates_circuit_text(circuit, text, sizeof text, &written));
+    CHECK(written == strlen(FULL_ADDER) && memcmp(text, FULL_ADDER, written) == 0);
+    CHECK_CODE(HALFGATES_OK, halfgates_circuit_text(ordered, text, sizeof text, &written));
+    CHECK(written == strlen(FULL_ADDER) && memcmp(text, FULL_ADDER, written) != 0);
+    halfgates_circuit_free(ordered);
+}
+
 static void *read_all(void *at) {
     const struct shared *shared = at;
     const uint8_t bits[3] = {1, 0, 1};
@@ -68,6 +80,7 @@ static void *read_all(void *at) {
     for (int round = 0; round < ROUNDS; round++) {
         CHECK_CODE(HALFGATES_OK, halfgates_circuit_numbers(shared->circuit, &numbers));
         CHECK(numbers.gates == 5 && numbers.wires == 8);
+        order_once(shared->circuit);
         garble_once(shared->circuit, 0, garbled);
         CHECK(memcmp(garbled, shared->garbled, sizeof garbled) == 0);
         CHECK_CODE(HALFGATES_OK, halfgates_garbling_write(shared->garbling, 2, garbled, sizeof garbled, &written));
