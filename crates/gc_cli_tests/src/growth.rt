@@ -62,6 +62,7 @@ const LIST_OF_JOBS: Part = (52, 1);
 /// The input labels.
 const BINDING: Part = (46, 1);
 
+/// The list of the jobs that one line names.
 const JOB: Part = (52, 1);
 
 const WORDS: Part = (52, 1);
@@ -134,9 +135,9 @@ static ORDERS: [(&[&str], &str, &[&[Part]]); 11] = [
         "01\n\n",
         &[
             &FIRST,
-            &[FILE, PARTS, LIST_OF_JOBS, PARTS, WORDS, GARBLED],
+            &[FILE, PARTS, LIST_OF_JOBS, JOB, PARTS, WORDS, GARBLED],
             &THREE_LABEL_FILES,
-            &[BINDING, JOB],
+            &[BINDING],
             &JOBS_EVALUATION,
             &[OUTPUT_LINE],
         ],

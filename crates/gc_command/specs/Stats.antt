@@ -8,7 +8,7 @@ use Rattle.gc_command.specs.CircuitFile.{IsCircuit, HasCircuitFault}
 use Rattle.gc_command.specs.Lines.{count_line}
 
 -- How many AND gates there are for each AND depth, rounded down; 0 where there are none.
-abbrev pub level_width : Stats → ℕ
+unfoldable pub level_width : Stats → ℕ
 level_width stats = if stats.and_depth == 0 then 0 else stats.and / stats.and_depth
 
 -- The lines of a circuit's statistics.

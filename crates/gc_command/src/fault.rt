@@ -4,7 +4,7 @@ ghost use Rattle.std.specs.Prelude.{◌≡◌, Some};
 ghost use Rattle.gc_netlist.specs.Names.{fault_name};
 ghost use Rattle.gc_command.specs.Fault.{code_of, text_of};
 
-use gc_circuit::{ReadFault, ValueFault};
+use gc_circuit::{Memory, ReadFault, ValueFault};
 use gc_disk::FileError;
 use gc_file::{FileFault, TakeFault, WriteFault};
 use gc_job::{BindFault, EvalFault};
@@ -97,6 +97,19 @@ impl From<ReadFault> for Fault {
 
     fn from(fault: ReadFault) -> Fault {
         Fault::Circuit(fault)
+    }
+}
+
+/// There is no memory for what is made of a circuit.
+impl From<Memory> for Fault {
+    ghost use Rattle.std.specs.Prelude.{◌≡◌};
+    ghost use Rattle.gc_netlist.specs.declared.fault.ReadFault.TheVariants as read;
+    ghost use Rattle.gc_command.specs.declared.fault.Fault.TheVariants as faults;
+
+    ghost from_gives = { λ _ e. e ≡ faults.Circuit read.Memory };
+
+    fn from(_memory: Memory) -> Fault {
+        Fault::Circuit(ReadFault::Memory)
     }
 }
 

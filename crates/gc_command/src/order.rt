@@ -14,7 +14,7 @@ use crate::context::Context;
 use crate::fault::Fault;
 use crate::progress::{Progress, Stage};
 use crate::wrote::{ROOM, keep_written, write_bytes};
-use gc_circuit::{Circuit, Memory, ReadFault};
+use gc_circuit::{Circuit, Memory};
 use gc_depth::order_by_depth;
 use gc_disk::Files;
 use gc_order::ByDepthOrder;
@@ -47,7 +47,7 @@ pub fn order<R, A: Allocator + Copy, F: Files, P: Progress>(
     context.progress.begin(1, 2, Stage::ReadingCircuit);
     let circuit = read_circuit(alloc, order.circuit.as_str(), files)?;
     context.progress.begin(2, 2, Stage::Ordering);
-    let text = ordered_text(alloc, circuit).map_err(|_| Fault::Circuit(ReadFault::Memory))?;
+    let text = ordered_text(alloc, circuit)?;
     write_text(alloc, order, &text, files)
 }
 

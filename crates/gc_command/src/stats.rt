@@ -8,7 +8,6 @@ use crate::circuit_file::read_circuit;
 use crate::fault::Fault;
 use crate::lines::push_count;
 use gc_audit::{Stats, stats as stats_of};
-use gc_circuit::ReadFault;
 use gc_disk::Files;
 use std::alloc::{AllocError, Allocator};
 
@@ -28,11 +27,12 @@ pub fn stats<A: Allocator + Copy, F: Files>(
     ensures same { (name : List ℕ) → F.bytes files.new name ≡ F.bytes files.old name }
 {
     let circuit = read_circuit(alloc, circuit, files)?;
-    let stats = stats_of(alloc, &circuit).map_err(|_| Fault::Circuit(ReadFault::Memory))?;
+    let stats = stats_of(alloc, &circuit)?;
     Ok(stats_lines(alloc, &stats)?)
 }
 
 /// How many AND gates there are for each AND depth, rounded down; 0 where there are none.
+#[tactic(auto, unfolding(gc_command::specs::Stats::level_width))]
 fn level_width(stats: &Stats) -> u64
     ensures { result ≡ level_width stats.now }
 {

@@ -123,7 +123,10 @@ fn put_back<A: Allocator>(
     requires all { AllOf pool.now thieves.old.items }
     ensures { IfSome result (λ _. AllOf pool.now thieves.new.items) }
 {
-    thieves.push(thief).ok()
+    match thieves.push(thief) {
+        Ok(()) => Some(()),
+        Err(_) => None,
+    }
 }
 
 /// Without one of three thieves a pool isn't gathered: its tasks and the other thieves are back. With all three it is.

@@ -24,15 +24,23 @@ fn refuses_strangers<L: Ledger, A: Allocator>(
     shared: &SharedStore<L, A>,
     tally: &mut Tally<L>,
 ) -> Result<(), Fail> {
-    let mut batch = Batch::new();
     let other = stranger(&Seed::from_bytes([1; 32]), 0);
     let beyond = stranger(&zero_seed(), 5);
-    for refused in [Refused::OtherInputs(other), Refused::NotClaimed(beyond)] {
-        let answer = shared.hand_in(rt, refused.sealed(), tally, &mut batch);
-        let found = (answer, tally.count(), batch.len());
-        equal(found, (Err(refused), 0, 0))?;
-    }
-    Ok(())
+    is_refused(rt, shared, tally, other, Refused::OtherInputs(other))?;
+    is_refused(rt, shared, tally, beyond, Refused::NotClaimed(beyond))
+}
+
+/// What is handed in is refused, and nothing is counted or claimed.
+fn is_refused<L: Ledger, A: Allocator>(
+    rt: &impl Wait,
+    shared: &SharedStore<L, A>,
+    tally: &mut Tally<L>,
+    sealed: Sealed,
+    refused: Refused,
+) -> Result<(), Fail> {
+    let mut batch = Batch::new();
+    let answer = shared.hand_in(rt, sealed, tally, &mut batch);
+    equal((answer, tally.count(), batch.len()), (Err(refused), 0, 0))
 }
 
 /// Gates 0 and 1 are taken, and 0 is handed in. The holder of 1, a thread, stops the store and ends. Returns the task

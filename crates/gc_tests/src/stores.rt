@@ -64,8 +64,9 @@ impl<L: Ledger> Work<L> {
     /// Claims a gate, and returns it.
     fn claim(&mut self) -> Option<u32> {
         let task = self.store.claim()?;
+        let gate = task.gate;
         self.claimed.push(task).ok()?;
-        Some(task.gate)
+        Some(gate)
     }
 
     /// Claims all gates that are ready. Returns whether they are these.
