@@ -1,6 +1,6 @@
 //! Tests of task pools: what is pushed is handed out, full pools, and missing thieves.
 
-ghost use Rattle.std.specs.Prelude.{◌≡◌, IfSome};
+ghost use Rattle.std.specs.Prelude.{◌≡◌, IfSome, OnOk};
 ghost use Rattle.gc_work.specs.Pool.{AllOf};
 
 use gc_circuit::Operation;
@@ -11,7 +11,7 @@ use gc_fixtures::refusing::Refusing;
 use gc_label::{Label, offset};
 use gc_store::Task;
 use gc_work::{Gathered, NoRoom, Owner, TaskPool, Thief};
-use std::alloc::{Allocator, Global};
+use std::alloc::{AllocFailed, Allocator, Global};
 use std::test::Fail;
 
 /// A task of a gate that reads no wire.
@@ -118,15 +118,13 @@ fn put_back<A: Allocator>(
     pool: &TaskPool<A>,
     thieves: &mut Vec<Thief<A>, A>,
     thief: Thief<A>,
-) -> Option<()>
+) -> Result<(), AllocFailed<Thief<A>>>
     requires own { thief.pool ≡ pool.now }
     requires all { AllOf pool.now thieves.old.items }
-    ensures { IfSome result (λ _. AllOf pool.now thieves.new.items) }
+    ensures { OnOk result (AllOf pool.now thieves.new.items) }
 {
-    match thieves.push(thief) {
-        Ok(()) => Some(()),
-        Err(_) => None,
-    }
+    thieves.push(thief)?;
+    Ok(())
 }
 
 /// Without one of three thieves a pool isn't gathered: its tasks and the other thieves are back. With all three it is.
@@ -140,7 +138,7 @@ fn gathers_with_all_thieves(rt: HostRuntime) -> Result<(), Fail> {
         Err(back) => back,
     };
     equal((gate_of(pool.pop(&mut owner)), thieves.len()), (Some(2), 2))?;
-    put_back(&pool, &mut thieves, last).ok_or("there is room")?;
+    put_back(&pool, &mut thieves, last)?;
     let Ok(gathered) = pool.gather(owner, thieves) else {
         return Err(Fail::new("a thief is missing"));
     };
@@ -170,7 +168,7 @@ fn hands_out_all<A: Allocator>(
     let mut thief = take_one(&pool, &mut thieves)?;
     let stolen = pool.steal(&mut thief)?.gate;
     let popped = pool.pop(&mut owner)?.gate;
-    put_back(&pool, &mut thieves, thief)?;
+    put_back(&pool, &mut thieves, thief).ok()?;
     let gathered = pool.gather(owner, thieves).ok()?;
     Some(stolen == 0 && popped.checked_add(1) == Some(pushed) && hands_out(gathered, 1, popped))
 }
