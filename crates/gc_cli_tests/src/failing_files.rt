@@ -88,7 +88,7 @@ labels 1 1
 honest
 ";
 
-/// Asserts that the order ends by this fault over files with these limits.
+/// Asserts that the order ends by this fault over files with these limits, and leaves no sink open.
 fn assert_fails<R: Threads + Wait + Sync>(
     rt: &R,
     alloc: Global,
@@ -98,7 +98,7 @@ fn assert_fails<R: Threads + Wait + Sync>(
 ) -> Result<(), Fail> {
     let mut files = MemFiles::limited(alloc, &XOR_FILES, limits);
     let found = result_of(rt, alloc, alloc, words, &mut files)?.err();
-    equal((words, found), (words, Some(fault)))
+    equal((words, found, files.open_sinks()), (words, Some(fault), 0))
 }
 
 /// Asserts that the order prints this over files with these limits.

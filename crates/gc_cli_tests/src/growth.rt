@@ -95,9 +95,10 @@ const AUDIT_LINES: Part = (52, 7);
 /// which the job is evaluated once more; and the bits of all jobs.
 const JOBS_EVALUATION: [Part; 2] = [(0, 4), (46, 1)];
 
-/// Orders over the full adder, what each prints, and the parts of its work. What a sink takes is the files' own memory.
+/// Orders over the full adder, and one over a circuit whose last gate is AND, what each prints, and the parts of its
+/// work. What a sink takes is the files' own memory.
 /// Two threads read the files of `eval`, in no order: `refusals` has it.
-static ORDERS: [(&[&str], &str, &[&[Part]]); 11] = [
+static ORDERS: [(&[&str], &str, &[&[Part]]); 12] = [
     (
         &["run", "c.txt", SEED, "1", "0", "1"],
         "01\n",
@@ -123,6 +124,11 @@ static ORDERS: [(&[&str], &str, &[&[Part]]); 11] = [
     (
         &["garble", "c.txt", SEED, "out"],
         "wrote 177\n",
+        &[&FIRST, &[GARBLING, OUTPUT_LINE]],
+    ),
+    (
+        &["garble", "late.txt", SEED, "out"],
+        "wrote 145\n",
         &[&FIRST, &[GARBLING, OUTPUT_LINE]],
     ),
     (

@@ -13,7 +13,7 @@ use std::test::Fail;
 use std::thread::Threads;
 
 /// The command line of these arguments.
-fn command_line(alloc: Global, arguments: &[&str]) -> Result<Vec<String>, AllocError> {
+pub fn command_line(alloc: Global, arguments: &[&str]) -> Result<Vec<String>, AllocError> {
     let mut words = Vec::new(alloc);
     words.push(String::from_str(alloc, "halfgates")?)?;
     for argument in arguments {
@@ -78,7 +78,8 @@ pub enum Outcome {
     Ended(Fault),
 }
 
-/// Carries out the order with memory of a heap that refuses one growth. Where no fault ends it, it prints this.
+/// Carries out the order with memory of a heap that refuses one growth. Where no fault ends it, it prints this. Either
+/// way no sink is left open.
 pub fn outcome_of_refusal<R: Threads + Wait + Sync, B: Allocator + Copy>(
     rt: &R,
     alloc: Global,
@@ -87,7 +88,9 @@ pub fn outcome_of_refusal<R: Threads + Wait + Sync, B: Allocator + Copy>(
     files: &mut MemFiles<'_, B>,
     printed: &str,
 ) -> Result<Outcome, Fail> {
-    match result_of(rt, alloc, heap, words, files)? {
+    let result = result_of(rt, alloc, heap, words, files)?;
+    equal((words, files.open_sinks()), (words, 0))?;
+    match result {
         Ok(answer) => assert_printed(alloc, answer, printed)?,
         Err(fault) if heap.refused() == 1 => return Ok(Outcome::Ended(fault)),
         Err(_) => return Err(Fail::new("a fault without a refusal")),

@@ -36,6 +36,8 @@ pub struct MemFiles<'a, B: Allocator = Global> {
     alloc: B,
     files: &'a [(&'a str, &'a [u8])],
     written: Option<(String<B>, Vec<u8, B>)>,
+    // How many sinks were created, and neither kept nor discarded.
+    open_sinks: u32,
     limits: Limits,
     trail: Trail,
     failures: FileFailures<MemSink<B>, MemSource<'a>>,
@@ -73,10 +75,24 @@ impl<'a, B: Allocator> MemFiles<'a, B> {
             alloc,
             files,
             written: None,
+            open_sinks: 0,
             limits,
             trail: Trail::new(),
             failures: FileFailures::new(),
         }
+    }
+
+    /// The bytes of the file that was written, if one was.
+    pub fn written(&self) -> Option<&[u8]> {
+        match &self.written {
+            Some((_, bytes)) => Some(bytes.as_slice()),
+            None => None,
+        }
+    }
+
+    /// How many sinks were created, and neither kept nor discarded.
+    pub fn open_sinks(&self) -> u32 {
+        self.open_sinks
     }
 
     /// Whether one more call goes well.
@@ -153,6 +169,7 @@ impl<'a, B: Allocator + Copy> Files for MemFiles<'a, B> {
     fn create(&mut self, name: &str, source: &str) -> Result<MemSink<B>, FileError> {
         self.trail.open(name);
         if self.goes_well() && name != source {
+            self.open_sinks = self.open_sinks.saturating_add(1);
             return Ok(MemSink::new(self.alloc, self.limits.taken));
         }
         self.trail.fail(Cause::NotWritten);
@@ -161,6 +178,7 @@ impl<'a, B: Allocator + Copy> Files for MemFiles<'a, B> {
     }
 
     fn keep(&mut self, name: &str, sink: MemSink<B>) -> Result<(), FileError> {
+        self.open_sinks = self.open_sinks.saturating_sub(1);
         self.failures.add_sink(name, &sink);
         if self.goes_well() && self.written.is_none() {
             if let Ok(name) = String::from_str(self.alloc, name) {
@@ -174,6 +192,7 @@ impl<'a, B: Allocator + Copy> Files for MemFiles<'a, B> {
     }
 
     fn discard(&mut self, name: &str, sink: MemSink<B>) {
+        self.open_sinks = self.open_sinks.saturating_sub(1);
         self.failures.add_sink(name, &sink);
     }
 

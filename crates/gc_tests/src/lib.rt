@@ -1,5 +1,6 @@
-//! The tests of circuits, values, garbling and files, of stores that threads share, of pools of tasks, and of garbling
-//! on many threads: each growth of a call refused in turn, calls that don't allocate, and sources and sinks that fail.
+//! The tests of circuits, values, garbling and files, of stores, alone and shared by threads, of pools of tasks, and of
+//! garbling on many threads: each growth of a call refused in turn, calls that don't allocate, sources and sinks that
+//! fail, the order in which gates are ready, full pools and missing thieves.
 #![tactic(auto)]
 
 #[cfg(test)]
