@@ -133,10 +133,13 @@ class Ordered(OrderTest):
         self.assert_orders(text)
 
     def test_circuits_of_the_script(self):
+        """The script can write them in order itself."""
         for words in MADE:
             with self.subTest(words):
-                self.make(words[0], *words[1:])
+                self.make(*words)
                 self.assert_orders(self.bytes_of(words[0]))
+                self.make(*words, "--by-depth")
+                self.assertEqual(self.bytes_of(words[0]), self.bytes_of("ordered"))
 
 
 class Garbled(OrderTest):
