@@ -169,7 +169,7 @@ class Garbled(OrderTest):
     def test_published_answers(self):
         for name in "aes128", "sha256", "mul32", "add64":
             self.make(name)
-            self.assert_orders(self.bytes_of(name))
+            self.assertEqual(self.run_program("order", name, "ordered")[0], 0)
             for answer in ANSWERS[name][:2]:
                 with self.subTest(circuit=name, answer=answer["name"]):
                     outputs = self.run_program("plain", name, *answer["inputs"])[1]
