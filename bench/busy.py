@@ -16,11 +16,11 @@ from statistics import median
 
 from measure import CIRCUITS, make, print_row, times
 
-# Circuits that several workers go through by layers, and at last one that they go through together.
+# A circuit that any number of workers leaves to one thread, and circuits that workers share.
 NAMES = [
     "AES-128, 33 times",
-    "32-bit products, 128 times",
-    "gates that read within a thousand, half AND",
+    "independent gates, half AND",
+    "independent gates, all AND",
     "64 chains of AND gates",
 ]
 

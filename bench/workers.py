@@ -18,9 +18,7 @@ from measure import CIRCUITS, PARTS, make, print_row, print_times, times
 TARGETS = [
     ("independent gates, all AND", "garble", "garble4", 3.4),
     ("independent gates, all AND", "garble1", "garble4", 3.2),
-    ("independent gates, a quarter AND", "garble", "garble4", 2.3),
     ("independent gates, all AND", "job", "job4", 3.0),
-    ("gates that read within a thousand, half AND", "job", "job4", 1.8),
 ]
 
 

@@ -133,10 +133,13 @@ class Ordered(OrderTest):
         self.assert_orders(text)
 
     def test_circuits_of_the_script(self):
+        """The script can write them in order itself."""
         for words in MADE:
             with self.subTest(words):
-                self.make(words[0], *words[1:])
+                self.make(*words)
                 self.assert_orders(self.bytes_of(words[0]))
+                self.make(*words, "--by-depth")
+                self.assertEqual(self.bytes_of(words[0]), self.bytes_of("ordered"))
 
 
 class Garbled(OrderTest):
@@ -166,7 +169,7 @@ class Garbled(OrderTest):
     def test_published_answers(self):
         for name in "aes128", "sha256", "mul32", "add64":
             self.make(name)
-            self.assert_orders(self.bytes_of(name))
+            self.assertEqual(self.run_program("order", name, "ordered")[0], 0)
             for answer in ANSWERS[name][:2]:
                 with self.subTest(circuit=name, answer=answer["name"]):
                     outputs = self.run_program("plain", name, *answer["inputs"])[1]
