@@ -141,20 +141,20 @@ class Processor(unittest.TestCase):
     def test_programs(self):
         (self.folder / "uname").write_text("#!/bin/sh\necho $MACHINE\n")
         (self.folder / "uname").chmod(0o755)
-        for flags, machine, has_loader, name in (
-            ("fpu", "x86_64", False, "/dist/halfgates"),
-            (" ".join(V3), "x86_64", False, "/dist/v3/halfgates"),
-            (" ".join(V3), "x86_64", True, "/dist/v3/halfgates"),
-            ("fpu", "aarch64", True, "/dist/aarch64/halfgates"),
-            (" ".join(V3), "aarch64", True, "/dist/aarch64/halfgates"),
+        for flags, machine, has_loader, paths in (
+            ("fpu", "x86_64", False, "/dist/halfgates /dist/lib"),
+            (" ".join(V3), "x86_64", False, "/dist/v3/halfgates /dist/lib"),
+            (" ".join(V3), "x86_64", True, "/dist/v3/halfgates /dist/lib"),
+            ("fpu", "aarch64", True, "/dist/aarch64/halfgates /dist/lib/aarch64"),
+            (" ".join(V3), "aarch64", True, "/dist/aarch64/halfgates /dist/lib/aarch64"),
         ):
             self.info.write_text(f"flags\t\t: {flags}\n")
             self.loader.unlink(missing_ok=True)
             if has_loader:
                 self.loader.touch()
             environment = {"PATH": f"{self.folder}:{os.environ['PATH']}", "MACHINE": machine}
-            found = self.run_script("find_released; echo $program", env=environment)
-            self.assertEqual(found, (0, f"{name}\n"), (flags, machine, has_loader))
+            found = self.run_script('find_released; echo "$program $library"', env=environment)
+            self.assertEqual(found, (0, f"{paths}\n"), (flags, machine, has_loader))
 
     def test_flags(self):
         cases = {"": False, "processor\t: 0\n": False, "flags\t\t: fpu\n": False}
