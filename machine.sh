@@ -10,10 +10,16 @@ is_v3() {
     done
 } 2>/dev/null
 
-# Finds the program of dist/, the release, for processors of this kind. Its path is then $program.
+# Finds the program of dist/, the release, and the folder of its library, for processors of this kind. Their paths are
+# then $program and $library. Only where ARM64's loader is there, uname is asked: under an emulator, /proc/cpuinfo may be
+# about another processor.
 find_released() {
-    program=$top/dist/halfgates
-    ! is_v3 || program=$top/dist/v3/halfgates
+    program=$top/dist/halfgates library=$top/dist/lib
+    if [ -e /lib/ld-linux-aarch64.so.1 ] && [ "$(uname -m)" = aarch64 ]; then
+        program=$top/dist/aarch64/halfgates library=$top/dist/lib/aarch64
+    elif is_v3; then
+        program=$top/dist/v3/halfgates
+    fi
 }
 
 # Finds the program: the one that ./build made for this processor since the release, or else that of the release.

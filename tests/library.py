@@ -1,7 +1,7 @@
 """The library under test, its package for Python, and programs of C and C++ that are linked with it.
 
 The library lies in the folder that the environment variable HALFGATES_LIB_DIR names, or else in out/lib/,
-where ./build made it since the release, or else in dist/lib/. HALFGATES_LIBRARY names another shared one.
+where ./build made it since the release, or else in dist/. HALFGATES_LIBRARY names another shared one.
 """
 import os
 import shutil
@@ -31,7 +31,8 @@ def folder_of_library():
     """Where the libraries lie, by the rule for the program."""
     named = os.environ.get("HALFGATES_LIB_DIR")
     is_built = f'[ "$top/out/lib/{SONAME}" -nt "$top/dist/halfgates.sources" ]'
-    return Path(named or (BUILT if ask("machine.sh", is_built)[0] == 0 else TOP / "dist/lib")).resolve()
+    released = ask("machine.sh", "find_released; echo $library")[1]
+    return Path(named or (BUILT if ask("machine.sh", is_built)[0] == 0 else released)).resolve()
 
 
 def shared_library(folder):

@@ -19,7 +19,7 @@ FILES = {
 }
 
 # What the test command needs of a machine.
-TOOLS = "awk cat cmp cp diff dirname find grep mkdir mktemp nproc python3 rm sed sh sha256sum sort xargs".split()
+TOOLS = "awk cat cmp cp diff dirname find grep mkdir mktemp nproc python3 rm sed sh sha256sum sort uname xargs".split()
 
 STAND_INS = {
     "bin/rt": "#!/bin/sh\necho proving\necho 2 passed, 0 failed\n",

@@ -225,15 +225,14 @@ class InstallTest(unittest.TestCase):
         return run(self.top / "install", self.prefix, env=environment)
 
     def test_arm64(self):
-        """The library and the package for Python alone."""
         self.assertEqual(self.install_on("aarch64"), (0, "", ""))
         installed = self.files()
         for name in (SONAME, "libhalfgates.a"):
             self.assertEqual(installed[f"lib/{name}"], (RELEASE / "lib/aarch64" / name).read_bytes())
         link = self.prefix / "share/halfgates/python/halfgates/lib/aarch64" / SONAME
         self.assertEqual(link.resolve(), self.prefix / "lib" / SONAME)
-        self.assertFalse([name for name in installed if name.startswith(("libexec/", "lib/glibc-hwcaps/"))])
-        self.assertFalse((self.prefix / "bin/halfgates").exists())
+        self.assertEqual(installed["libexec/halfgates/halfgates"], (RELEASE / "aarch64/halfgates").read_bytes())
+        self.assertFalse([name for name in installed if name.startswith("lib/glibc-hwcaps/")])
 
     def test_other_processors(self):
         status, _, error = self.install_on("riscv64")

@@ -117,18 +117,44 @@ class Choice(Copy):
 
 
 class Processor(unittest.TestCase):
-    """A processor is of x86-64-v3 where it has each of the flags."""
+    """A processor is of x86-64-v3 where it has each of the flags, and of ARM64 where uname and the loader say so."""
 
     def setUp(self):
         folder = tempfile.TemporaryDirectory()
         self.addCleanup(folder.cleanup)
-        self.info, self.script = Path(folder.name, "cpuinfo"), Path(folder.name, "machine.sh")
-        self.script.write_text((TOP / "machine.sh").read_text().replace("/proc/cpuinfo", str(self.info)))
+        self.folder = Path(folder.name)
+        self.info, self.loader, self.script = (self.folder / it for it in ("cpuinfo", "loader", "machine.sh"))
+        text = (TOP / "machine.sh").read_text().replace("/proc/cpuinfo", str(self.info))
+        self.script.write_text(text.replace("/lib/ld-linux-aarch64.so.1", str(self.loader)))
+
+    def run_script(self, command, **how):
+        words = ["sh", "-c", f"top=; . {self.script}; {command}"]
+        done = subprocess.run(words, capture_output=True, text=True, check=False, **how)
+        self.assertEqual(done.stderr, "")
+        return done.returncode, done.stdout
 
     def is_v3(self):
-        done = subprocess.run(["sh", "-c", f". {self.script}; is_v3"], capture_output=True, check=False)
-        self.assertEqual((done.stdout, done.stderr), (b"", b""))
-        return done.returncode == 0
+        status, printed = self.run_script("is_v3")
+        self.assertEqual(printed, "")
+        return status == 0
+
+    def test_programs(self):
+        (self.folder / "uname").write_text("#!/bin/sh\necho $MACHINE\n")
+        (self.folder / "uname").chmod(0o755)
+        for flags, machine, has_loader, paths in (
+            ("fpu", "x86_64", False, "/dist/halfgates /dist/lib"),
+            (" ".join(V3), "x86_64", False, "/dist/v3/halfgates /dist/lib"),
+            (" ".join(V3), "x86_64", True, "/dist/v3/halfgates /dist/lib"),
+            ("fpu", "aarch64", True, "/dist/aarch64/halfgates /dist/lib/aarch64"),
+            (" ".join(V3), "aarch64", True, "/dist/aarch64/halfgates /dist/lib/aarch64"),
+        ):
+            self.info.write_text(f"flags\t\t: {flags}\n")
+            self.loader.unlink(missing_ok=True)
+            if has_loader:
+                self.loader.touch()
+            environment = {"PATH": f"{self.folder}:{os.environ['PATH']}", "MACHINE": machine}
+            found = self.run_script('find_released; echo "$program $library"', env=environment)
+            self.assertEqual(found, (0, f"{paths}\n"), (flags, machine, has_loader))
 
     def test_flags(self):
         cases = {"": False, "processor\t: 0\n": False, "flags\t\t: fpu\n": False}
