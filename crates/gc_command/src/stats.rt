@@ -32,7 +32,7 @@ pub fn stats<A: Allocator + Copy, F: Files>(
 }
 
 /// How many AND gates there are for each AND depth, rounded down; 0 where there are none.
-#[tactic(auto, unfolding(gc_command::specs::Stats::level_width))]
+#[tactic(auto, unfolding(crate::specs::Stats::level_width))]
 fn level_width(stats: &Stats) -> u64
     ensures { result ≡ level_width stats.now }
 {

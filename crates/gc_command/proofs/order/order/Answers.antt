@@ -12,8 +12,8 @@ returns-clause-answers g c =
       circuit = c.in_ok-circuit.circuit;
       read = circuit;
       ordered = c.in_ok-text.ensures.0;
-      order = c.in_ok-text.ensures.1.0;
-      written = rw (c.deref.ensures.value, c.in_ok-text.ensures.1.1) at wrote;
+      order = c.in_ok-text.ensures.1;
+      written = rw (c.deref.ensures.value, c.in_ok-text.ensures.2) at wrote;
     })
     c.in_ok-circuit.ensures.circuit
     (rw (c.read_circuit.ensures.same c.as_str.result.now)
