@@ -5,7 +5,7 @@ import subprocess
 from program import PROGRAM, SEED, ProgramTest
 
 # What every command, and every thread that it starts, keeps within.
-STACK = 128 << 10
+STACK = 160 << 10
 
 MEBIBYTE = 1 << 20
 STEP = 96 << 10
