@@ -21,30 +21,30 @@ class SmallMemory(ProgramTest):
 
     def setUp(self):
         super().setUp()
-        self.make("aes.txt", "aes128")
+        self.make("aes128")
         key, block = "x" + 32 * "0", "x" + 32 * "1"
-        self.run_program("garble", "aes.txt", SEED, "garbled")
+        self.run_program("garble", "aes128", SEED, "garbled")
         for i, value in enumerate((key, block)):
-            self.run_program("deal", "aes.txt", SEED, i, value, f"label{i}")
+            self.run_program("deal", "aes128", SEED, i, value, f"label{i}")
         self.put("list", "garbled label0 label1\ngarbled label1 label0\n")
         labels = "label0", "label1"
         self.commands = [
-            ("check", "aes.txt"),
-            ("stats", "aes.txt"),
-            ("locate", "aes.txt"),
-            ("order", "aes.txt", "ordered"),
-            ("plain", "aes.txt", key, block),
-            ("run", "aes.txt", SEED, key, block),
-            ("garble", "aes.txt", SEED, "out"),
-            ("garble", "aes.txt", SEED, "out", "--workers", "4"),
-            ("deal", "aes.txt", SEED, 0, key, "out"),
-            ("eval", "aes.txt", "garbled", *labels),
-            ("eval", "aes.txt", "garbled", *labels, "--workers", "4"),
-            ("jobs", "aes.txt", "list", "--workers", "2"),
-            ("labels", "aes.txt", SEED, key, block),
-            ("audit", "aes.txt", SEED, "garbled", *labels),
+            ("check", "aes128"),
+            ("stats", "aes128"),
+            ("locate", "aes128"),
+            ("order", "aes128", "ordered"),
+            ("plain", "aes128", key, block),
+            ("run", "aes128", SEED, key, block),
+            ("garble", "aes128", SEED, "out"),
+            ("garble", "aes128", SEED, "out", "--workers", "4"),
+            ("deal", "aes128", SEED, 0, key, "out"),
+            ("eval", "aes128", "garbled", *labels),
+            ("eval", "aes128", "garbled", *labels, "--workers", "4"),
+            ("jobs", "aes128", "list", "--workers", "2"),
+            ("labels", "aes128", SEED, key, block),
+            ("audit", "aes128", SEED, "garbled", *labels),
             ("--help",),
-            ("run", "aes.txt", SEED, key, "--explain"),
+            ("run", "aes128", SEED, key, "--explain"),
         ]
 
     def test_a_small_stack(self):
