@@ -68,7 +68,7 @@ class ArgsFrom(ProgramTest):
         """`help COMMAND` is what `COMMAND --help` is, for each command and for none."""
         _, text, _ = self.run_program("--help")
         names = re.findall(r"^  (\w+) {2,}", text, re.M)
-        self.assertEqual(len(names), 11)
+        self.assertEqual(len(names), 12)
         for words in [], *([name] for name in names):
             expected = self.run_program(*words, "--help")
             self.assertEqual(expected[0], 0)

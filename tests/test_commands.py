@@ -330,8 +330,6 @@ class LongFiles(ProgramTest):
 
     def test_no_memory_for_a_file(self):
         self.put("c.txt", XOR)
-        self.put("label", label_file(0, ONE_LABELS[0]))
-        self.put("list", "long label")
         with open(self.folder / "long", "wb") as file:
             file.truncate(8 << 30)
         for words in (("stats", "long"), ("order", "long", "out"), ("jobs", "c.txt", "long"), ("jobs", "c.txt", "list")):
