@@ -332,7 +332,7 @@ class LongFiles(ProgramTest):
         self.put("c.txt", XOR)
         with open(self.folder / "long", "wb") as file:
             file.truncate(8 << 30)
-        for words in (("stats", "long"), ("order", "long", "out"), ("jobs", "c.txt", "long"), ("jobs", "c.txt", "list")):
+        for words in (("stats", "long"), ("order", "long", "out"), ("jobs", "c.txt", "long")):
             self.assertEqual(self.run_program(*words, preexec_fn=little_memory), fails("52 Memory"), words)
 
 
