@@ -37,8 +37,8 @@
  * handle, may be used by another thread once that thread knows that the call has returned.
  *
  * STACK. As measured on x86-64, halfgates_job_bind uses 53 kilobytes of stack, halfgates_garbling_write 43,
- * halfgates_audit 40, halfgates_circuit_read 26, halfgates_deal 20, halfgates_write_many 19, and every other call less
- * than 5.
+ * halfgates_audit 40, halfgates_write_many 36, halfgates_circuit_read 22, halfgates_circuit_order 22, halfgates_deal 20,
+ * halfgates_circuit_text 9, and every other call less than 5.
  *
  * BUFFERS. The library reads and writes buffers within a call and keeps no pointer to them. Buffers of bytes need no
  * alignment. A buffer that is written overlaps no other argument, and has at least the room that is needed, else the
@@ -75,7 +75,7 @@
 /* The version of this header. That of the library is halfgates_version(). */
 #define HALFGATES_VERSION_MAJOR 0
 #define HALFGATES_VERSION_MINOR 9
-#define HALFGATES_VERSION_PATCH 5
+#define HALFGATES_VERSION_PATCH 6
 
 #ifdef __cplusplus
 extern "C" {
@@ -154,7 +154,7 @@ halfgates_name halfgates_fault_name(int32_t code);
 /* Whether a code says that memory ran out: 1 for 13, 23, 36, 46 and 62, and else 0. */
 int32_t halfgates_is_memory(int32_t code);
 
-/* The version of the library, such as "0.9.5". */
+/* The version of the library, such as "0.9.6". */
 halfgates_name halfgates_version(void);
 
 /* ---------------------------------------------------------------------------------------------------- circuits -- */
@@ -173,6 +173,15 @@ int32_t halfgates_circuit_read(const uint8_t *text, size_t length, halfgates_cir
  * halfgates_circuit_free; the circuit is freed with the last. Code: HALFGATES_MEMORY.
  */
 int32_t halfgates_circuit_share(const halfgates_circuit *circuit, halfgates_circuit **other);
+
+/*
+ * Writes a handle of the circuit with its gates in order of AND depth: the gates that set wires of one AND depth follow
+ * one another, its AND gates first, each kind in file order. It has the same gates and computes the same. One garbling
+ * or one evaluation of it can take half the time; halfgates_garble_many and halfgates_evaluate_many gain nothing. Its
+ * digest and the numbers of its AND gates are others, so both parties need it: the evaluator orders too, or reads the
+ * text that halfgates_circuit_text writes. Code: HALFGATES_MEMORY.
+ */
+int32_t halfgates_circuit_order(const halfgates_circuit *circuit, halfgates_circuit **ordered);
 
 /* Frees a circuit. Its garblings, its jobs and its other handles stay as they are. */
 void halfgates_circuit_free(halfgates_circuit *circuit);
@@ -200,6 +209,13 @@ int32_t halfgates_circuit_output_widths(const halfgates_circuit *circuit, uint32
 
 /* Writes the digest of a circuit, the SHA-256 of its canonical text, 32 bytes. It was taken when the text was read. */
 int32_t halfgates_circuit_digest(const halfgates_circuit *circuit, uint8_t digest[32]);
+
+/*
+ * Writes the canonical text of a circuit to `buffer`, and the number of its bytes to `written`. No zero byte follows
+ * it. Codes: HALFGATES_MEMORY; HALFGATES_SMALL_BUFFER, where `written` is the size that is needed. The text is made in
+ * memory first, so a call with size 0 takes as long.
+ */
+int32_t halfgates_circuit_text(const halfgates_circuit *circuit, uint8_t *buffer, size_t size, size_t *written);
 
 /* No gate, no wire or no output. */
 #define HALFGATES_NONE UINT32_MAX

@@ -11,7 +11,11 @@
  * numbers, widths and digest of a circuit are read once.
  *
  * What a call reads is a container of bytes or labels, such as a vector, a string, an array or a span, a `view`, or a
- * list such as {0, 1}. It is read where it is.
+ * list such as {0, 1}. It is read where it is. The text of a circuit can also be a string literal, or another string
+ * that ends with a zero byte, and bits a vector<bool>, which is copied.
+ *
+ * A handle that was made of nothing, or that was moved from, converts to false: it can be assigned to, and its calls
+ * throw HALFGATES_NULL_POINTER.
  */
 #ifndef HALFGATES_HPP
 #define HALFGATES_HPP
@@ -140,6 +144,22 @@ private:
     view input_;
 };
 
+/* The text of a circuit that ends with a zero byte. A NULL is refused by the call. */
+inline view text_of(const char *text) noexcept {
+    return view(text, text == nullptr ? 1 : std::strlen(text));
+}
+
+struct copied {
+    bytes copy_;
+};
+
+/* The bits that a call reads. Those of a vector<bool>, which has no bytes, are copied. */
+class bits : private copied, public input {
+public:
+    using input::input;
+    bits(const std::vector<bool> &given) : copied{bytes(given.begin(), given.end())}, input(copy_) {}
+};
+
 template <class T, void (*Free)(T *)>
 struct freeing {
     void operator()(T *at) const noexcept { Free(at); }
@@ -213,6 +233,8 @@ struct shape {
 
 class garbling {
 public:
+    garbling() noexcept : shape_() {}
+
     /* Takes over a garbling of a circuit of this shape. */
     garbling(halfgates_garbling *at, const shape &of) : handle_(at), shape_(of) {}
 
@@ -281,7 +303,7 @@ public:
         return pairs(halfgates_output_labels, shape_.output_widths, index);
     }
 
-    HALFGATES_NODISCARD std::vector<halfgates_wire_labels> labels(const detail::input &bits, std::uint32_t from,
+    HALFGATES_NODISCARD std::vector<halfgates_wire_labels> labels(const detail::bits &bits, std::uint32_t from,
                                                                   std::size_t count) const {
         const std::uint32_t wires = shape_.numbers.wires;
         check(from <= wires && count <= wires - from ? HALFGATES_OK : HALFGATES_BAD_ARGUMENT);
@@ -291,7 +313,7 @@ public:
     }
 
     /* The label file of an input value. */
-    HALFGATES_NODISCARD bytes deal(std::uint32_t index, const detail::input &bits) const {
+    HALFGATES_NODISCARD bytes deal(std::uint32_t index, const detail::bits &bits) const {
         bytes file(16 + 16 * bits.size());
         std::size_t written = 0;
         check(halfgates_garbling_deal(get(), index, bits.data(), bits.size(), file.data(), file.size(), &written));
@@ -313,6 +335,7 @@ public:
     }
 
     halfgates_garbling *get() const noexcept { return handle_.get(); }
+    explicit operator bool() const noexcept { return get() != nullptr; }
 
 private:
     template <class Call>
@@ -329,6 +352,8 @@ private:
 
 class job {
 public:
+    job() noexcept : outputs_(0) {}
+
     /* Takes over a job of a circuit of this shape. */
     job(halfgates_job *at, const shape &of) noexcept : handle_(at), outputs_(of.numbers.output_wires) {}
 
@@ -350,6 +375,7 @@ public:
     std::size_t outputs() const noexcept { return outputs_; }
 
     halfgates_job *get() const noexcept { return handle_.get(); }
+    explicit operator bool() const noexcept { return get() != nullptr; }
 
 private:
     detail::handle<halfgates_job, halfgates_job_free> handle_;
@@ -358,6 +384,10 @@ private:
 
 class circuit {
 public:
+    circuit() noexcept : shape_(), digest_() {}
+
+    explicit circuit(const char *text) : circuit(detail::text_of(text)) {}
+
     explicit circuit(const detail::input &text) {
         halfgates_circuit *at = nullptr;
         check(halfgates_circuit_read(text.data(), text.size(), &at));
@@ -371,6 +401,26 @@ public:
         circuit other;
         other.take(at);
         return other;
+    }
+
+    /* The circuit with its gates in order of AND depth. It computes the same, and has another digest. */
+    HALFGATES_NODISCARD circuit order() const {
+        halfgates_circuit *at = nullptr;
+        check(halfgates_circuit_order(get(), &at));
+        circuit ordered;
+        ordered.take(at);
+        return ordered;
+    }
+
+    /* The canonical text. */
+    HALFGATES_NODISCARD bytes text() const {
+        std::size_t size = 0;
+        const std::int32_t code = halfgates_circuit_text(get(), nullptr, 0, &size);
+        if (code != HALFGATES_SMALL_BUFFER)
+            check(code);
+        bytes text(size);
+        check(halfgates_circuit_text(get(), text.data(), text.size(), &size));
+        return text;
     }
 
     const halfgates_numbers &numbers() const noexcept { return shape_.numbers; }
@@ -415,7 +465,7 @@ public:
     }
 
     /* The label file of an input value. */
-    HALFGATES_NODISCARD bytes deal(const seed &key, std::uint32_t index, const detail::input &bits) const {
+    HALFGATES_NODISCARD bytes deal(const seed &key, std::uint32_t index, const detail::bits &bits) const {
         bytes file(16 + 16 * bits.size());
         std::size_t written = 0;
         check(halfgates_deal(get(), key.data(), index, bits.data(), bits.size(), file.data(), file.size(), &written));
@@ -460,17 +510,16 @@ public:
     }
 
     /* The bits of all output wires for those of all input wires, without garbling. */
-    HALFGATES_NODISCARD bytes plain(const detail::input &bits) const {
+    HALFGATES_NODISCARD bytes plain(const detail::bits &bits) const {
         bytes outputs(numbers().output_wires);
         check(halfgates_plain(get(), bits.data(), bits.size(), outputs.data(), outputs.size()));
         return outputs;
     }
 
     halfgates_circuit *get() const noexcept { return handle_.get(); }
+    explicit operator bool() const noexcept { return get() != nullptr; }
 
 private:
-    circuit() noexcept : shape_() {}
-
     void take(halfgates_circuit *at) {
         handle_.reset(at);
         halfgates_numbers &it = shape_.numbers;
@@ -525,7 +574,7 @@ HALFGATES_NODISCARD inline std::vector<bytes> evaluate_many(const std::vector<jo
 }
 
 /* The bits of active output labels, by the decode bits of their wires. */
-HALFGATES_NODISCARD inline bytes decode(const detail::input &active, const detail::input &decode_bits) {
+HALFGATES_NODISCARD inline bytes decode(const detail::input &active, const detail::bits &decode_bits) {
     bytes bits(decode_bits.size());
     check(halfgates_decode(active.data(), active.size(), decode_bits.data(), decode_bits.size(), bits.data(),
                            bits.size()));
@@ -537,6 +586,10 @@ HALFGATES_NODISCARD inline halfgates_place locate(const detail::input &text) {
     halfgates_place place;
     check(halfgates_locate(text.data(), text.size(), &place));
     return place;
+}
+
+HALFGATES_NODISCARD inline halfgates_place locate(const char *text) {
+    return locate(detail::text_of(text));
 }
 
 } // namespace halfgates
