@@ -37,7 +37,7 @@
  * handle, may be used by another thread once that thread knows that the call has returned.
  *
  * STACK. As measured on x86-64, halfgates_job_bind uses 53 kilobytes of stack, halfgates_garbling_write 43,
- * halfgates_audit 40, halfgates_write_many 36, halfgates_circuit_read 22, halfgates_circuit_order 22, halfgates_deal 20,
+ * halfgates_audit 40, halfgates_write_many 37, halfgates_circuit_read 22, halfgates_circuit_order 22, halfgates_deal 20,
  * halfgates_circuit_text 9, and every other call less than 5.
  *
  * BUFFERS. The library reads and writes buffers within a call and keeps no pointer to them. Buffers of bytes need no
