@@ -34,7 +34,7 @@ class Arm64(ProgramTest):
         self.emulated.chmod(0o755)
 
     def test_suites(self):
-        environment = {**os.environ, "HALFGATES": str(self.emulated)}
+        environment = {**os.environ, "HALFGATES": str(self.emulated), "EMULATED": "yes"}
         for name in SUITES:
             with self.subTest(suite=name):
                 words = [sys.executable, TOP / "tests" / f"{name}.py"]
