@@ -144,7 +144,7 @@ pub enum Version {
     V2 = 2,
 }
 
-/// The version of the library, such as `0.9.6`.
+/// The version of the library, such as `0.9.7`.
 #[must_use]
 #[doc(alias = "halfgates_version")]
 pub fn version() -> String {
