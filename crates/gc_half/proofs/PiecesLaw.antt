@@ -1,5 +1,5 @@
 -- The laws of pieces: those that leave are part of a garbling, and those that come are enough for the labels so far.
-use Rattle.gc_half.proofs.Names.{◌≡◌, ℕ, zero, suc, ◌+◌, ◌-◌, ◌<◌, ◌≤◌, ◌++◌, inl, List, length, map, take, take_all, slice_index, refl, sym, ap, subst, ◌∙◌, arith, Netlist, IsLawful, IsSet, IsSetBefore, IsSetBefore-more, output_wires, and_number, agree, after-keeps, solution_solves, RowPair, GarblingParts}
+use Rattle.gc_half.proofs.Names.{◌≡◌, ℕ, zero, suc, ◌+◌, ◌-◌, ◌<◌, ◌≤◌, ◌++◌, inl, List, length, map, take, take_all, slice_index, refl, sym, ap, subst, ◌∙◌, arith, Netlist, IsLawful, IsSet, IsSetBefore, IsSetBefore-more, output_wires, and_count, agree, after-keeps, solution_solves, RowPair, GarblingParts}
 use Rattle.std.specs.List.{range_with_len}
 use Rattle.std.proofs.lemmas.List.FromFn.{fill_by_all}
 use Rattle.gc_netlist.specs.Solution.{values_after, on_outputs}
@@ -10,7 +10,6 @@ use Rattle.gc_half.specs.Garbling.{IsGarbledFrom}
 use Rattle.gc_half.specs.Joined.{output_zero_labels}
 use Rattle.gc_half.specs.Evaluation.{active_rule}
 use Rattle.gc_half.specs.Streaming.{StreamingGarblerParts, IsGarbledSoFar, GarbledPiecesLaw, InputLabelsLaw, EvaluatedPiecesLaw}
-use Rattle.gc_half.proofs.AndNumbers.{and_number-end}
 use Rattle.gc_half.proofs.CircuitLaw.{active_local}
 use Rattle.gc_half.proofs.GarblingLemmas.{zero_local, IsGarbling-same}
 use Rattle.gc_half.proofs.LabelsLemmas.{output_zero_labels-are}

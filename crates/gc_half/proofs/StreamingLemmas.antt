@@ -85,9 +85,12 @@ module _ (c : Netlist) (given : List ℕ) (rows : List RowPair) (g : StreamingGa
       is.made
       ∙ count_rows (numbered_from g.first hash) g.offset c given g.gates g.labels rows is.garbled
 
+  pub garbler-few : g.made ≤ and_count c
+  garbler-few = omega (arith, garbler-count, and_number-few c g.gates)
+
   -- The number of the next AND gate is one.
   pub garbler-number : g.first + g.made ≤ 2 ^ 62
-  garbler-number = omega (arith, is.numbers, garbler-count, and_number-few c g.gates)
+  garbler-number = omega (arith, is.numbers, garbler-few)
 
   -- No row pair of the next piece is made.
   pub piece-begun : (number : ℕ) → number ≡ g.first + g.made

@@ -67,8 +67,7 @@ fn feed_all(
     ensures { IsEvaluatorOf circuit.now evaluator.new }
 {
     for piece in rows.chunks(size) {
-        let left = circuit.and_count().saturating_sub(evaluator.used());
-        if piece.len() > left as usize {
+        if piece.len() > evaluator.left(circuit) as usize {
             return Err(Fail::new("there are more row pairs than AND gates"));
         }
         evaluator.feed(circuit, piece);

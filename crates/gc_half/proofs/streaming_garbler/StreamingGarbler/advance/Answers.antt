@@ -1,4 +1,4 @@
-use Rattle.gc_half.proofs.Names.{◌+◌, ◌++◌, ◌∙◌, take, arith}
+use Rattle.gc_half.proofs.Names.{◌++◌, ◌∙◌, take, arith}
 use Rattle.gc_half.proofs.StreamingLemmas.{ands-few, garbler-number, piece-begun, piece-length, piece-whole, piece-made}
 use Rattle.gc_half.proofs.streaming_garbler.StreamingGarbler.advance.Goals as goal
 
