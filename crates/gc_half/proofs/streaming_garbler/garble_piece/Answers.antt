@@ -4,7 +4,11 @@ use Rattle.gc_half.proofs.PieceLemmas.{and_number-next, piece-count, piece-next}
 use Rattle.gc_half.proofs.streaming_garbler.garble_piece.Goals as goal
 
 pub loop-i-init : goal.loop-i-init
-loop-i-init g c = record { garbled = λ r first given before is. is; left = refl }
+loop-i-init g c = record {
+  garbled = λ r first given before is. is;
+  rest = λ i past. refl;
+  left = refl;
+}
 
 pub step-requires : goal.step-requires
 step-requires g c =
@@ -55,6 +59,8 @@ loop-i-preserved g c =
           piece-next r first netlist given before c.law_lawful.ensures i c.gate-gate.result at
           _ _ _ _ (c.loop-i.invariant.garbled r first given before began) step.offset step.numbered
           step.labels step.rows step.counted step.waiting;
+      rest = λ k past.
+          step.rest k past ∙ c.loop-i.invariant.rest k (omega (arith, past, step.counted));
       left = omega (
         arith,
         c.loop-i.invariant.left,

@@ -106,3 +106,9 @@ returns-clause-count g c =
     (piece-begun netlist c.requires.0 c.requires.1 _ is _ c.plus.ensures)) in
     rw (← c.self.view_is) (c.finish-labels.ensures.made ∙ after.counted
     ∙ piece-length netlist c.requires.0 c.requires.1 _ is _ _ _ _ after ensured.ends)
+
+pub returns-clause-rest : goal.returns-clause-rest
+returns-clause-rest g c = λ i past.
+    let finish = c.finish-labels.ensures in
+    finish.rest i past
+    ∙ c.garble_piece-table.ensures.rest i (omega (arith, past, finish.made))
