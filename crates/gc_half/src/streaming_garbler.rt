@@ -136,7 +136,8 @@ impl<A: Allocator + Copy> StreamingGarbler<A> {
         circuit.law_lawful();
         let alloc = *self.labels.allocator();
         let labels = mem::replace(&mut self.labels, Vec::new(alloc));
-        let begun = ZeroTable::new(self.offset, self.first.plus(self.made), labels);
+        let first = self.first.plus(self.made);
+        let begun = ZeroTable::new(self.offset, first, labels);
         let (table, to) = garble_piece(circuit, begun, self.gates, rows);
         let (labels, piece) = table.finish(rows);
         self.labels = labels;
