@@ -1,5 +1,5 @@
 -- Garbling in file order: the table of zero labels and the row pairs, gate after gate.
-use Rattle.gc_half.proofs.Names.{◌≡◌, ℕ, ap, input_label_of, input_zero, add-one, if◌then◌else◌, ◌==◌, ◌+◌, ◌-◌, ◌<◌, ◌≤◌, ◌++◌, inl, ⊎_elim, List, [], length, map, replicate, slice_get, slice_index, Some, take, refl, sym, ◌∙◌, subst, arith, nat_tests, slice_get_within, Gate, Netlist, input_wires, output_wires, IsLawful, IsSet, IsSetBy, IsSetBefore, EachRead, and_number, put, EachRead-map, after-keeps, solution_solves, RowPair, first_read, second_read, gate_rows, zero_of, IsGarbling, rows_after, with_row_pair}
+use Rattle.gc_half.proofs.Names.{◌≡◌, ℕ, ap, input_label_of, input_zero, add-one, if◌then◌else◌, ◌==◌, ◌+◌, ◌-◌, ◌<◌, ◌≤◌, ◌++◌, inl, ⊎_elim, List, [], length, map, set, get_or-set_same, get_or-set_other, replicate, slice_get, slice_index, Some, take, refl, sym, ◌∙◌, subst, arith, nat_tests, slice_get_within, Gate, Netlist, input_wires, output_wires, IsLawful, IsSet, IsSetBy, IsSetBefore, EachRead, and_number, put, EachRead-map, after-keeps, solution_solves, RowPair, first_read, second_read, gate_rows, zero_of, IsGarbling, rows_after, with_row_pair}
 use Rattle.std.specs.List.{range_with_len}
 use Rattle.std.proofs.lemmas.Bool.{cases_lt}
 use Rattle.std.proofs.lemmas.List.{get_or_past, take_all}
@@ -16,6 +16,13 @@ use Rattle.gc_half.proofs.OneGateLemmas.{first_read-local, second_read-local}
 use Rattle.gc_half.proofs.GarblingLemmas.{zero_local, IsGarbling-same, rows-garbling}
 use Rattle.gc_half.proofs.RowLemmas.{rows_after-start, rows_after-next, length-rows_after}
 use Rattle.gc_half.proofs.SetWires.{last_or_before, not_set_before}
+
+-- A label that is set in a table is put over what the wires have.
+pub set-put : (labels : List ℕ) (values : ℕ → ℕ) (s x y : ℕ) → s < length labels
+    → ((w : ℕ) → slice_index labels w ≡ values w) → x ≡ y → (w : ℕ)
+    → slice_index (set labels s x) w ≡ put values s y w
+set-put labels values s x y within same is w =
+    grind (arith, nat_tests, get_or-set_same labels s x 0, get_or-set_other labels s w x 0, same w)
 
 -- The hash may be any.
 module _ (h : ℕ → ℕ → ℕ) (r : ℕ) (c : Netlist) (given : List ℕ) where

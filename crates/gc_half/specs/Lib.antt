@@ -11,3 +11,5 @@ pub mod Comparing
 pub mod Waiting
 pub mod Joined
 pub mod SideBySide
+pub mod Streaming
+pub mod Pieces

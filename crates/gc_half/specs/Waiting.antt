@@ -1,11 +1,11 @@
 -- AND gates that wait to be made together.
-use Rattle.std.specs.Prelude.{◌≢◌, ℕ, List, [], ◌∷◌, slice_set, Option, Some, None}
+use Rattle.std.specs.Prelude.{◌≢◌, ℕ, ◌++◌, List, [], ◌∷◌, map, take, slice_set, Option, Some, None}
 use Rattle.gc_half.specs.declared.waiting.WaitingGate.{WaitingGate}
 use Rattle.gc_half.specs.declared.waiting.WaitingGates.{WaitingGates}
 use Rattle.gc_half.specs.declared.half_gate.AndGate.{AndGate}
 use Rattle.gc_half.specs.declared.half_gate.AndStep.{AndStep}
 use Rattle.gc_half.specs.declared.garbling.RowPair.{RowPair}
-use Rattle.gc_half.specs.Hash.{hash}
+use Rattle.gc_half.specs.Hash.{hash, numbered_from}
 use Rattle.gc_half.specs.HalfGate.{and_zero, and_active}
 use Rattle.gc_half.specs.OneGate.{row_pair}
 use Rattle.gc_half.specs.Comparing.{RowTableParts}
@@ -59,6 +59,22 @@ pub record GarblingTableParts : Type 0 where
   pub rows : List RowPair
   pub compared : RowTableParts
   pub waiting : List (WaitingGate AndGate)
+
+-- A circuit of which a piece is garbled gate after gate: the offset, the number of the piece's first AND gate, the
+-- labels of the circuit's wires, as if no gate waited, how many of the piece's row pairs are in their places, and the
+-- gates that wait.
+pub record ZeroTableParts : Type 0 where
+  pub offset : ℕ
+  pub first : ℕ
+  pub labels : List ℕ
+  pub made : ℕ
+  pub waiting : List (WaitingGate AndGate)
+
+-- The piece's row pairs, as if no gate waited: those in the first of these places, and those of the gates that wait.
+abbrev pub rows_made : ZeroTableParts → List RowPair → List RowPair
+rows_made t places =
+    take t.made places
+    ++ map (λ waits. row_pair_of_gate (numbered_from t.first hash) waits.gate) t.waiting
 
 -- A circuit that is evaluated gate after gate: the labels of its wires, as if no gate waited, the gates that wait,
 -- and the number of the first AND gate.

@@ -3,6 +3,7 @@
 ghost use Rattle.std.specs.Prelude.{◌≡◌, ◌≤◌, IfOk, length, map, slice_index};
 ghost use Rattle.std.specs.List.{range_with_len};
 
+use crate::zero_labels::padded_labels;
 use gc_circuit::Memory;
 use gc_label::Label;
 use std::alloc::Allocator;
@@ -17,8 +18,5 @@ pub fn input_active_labels<A: Allocator + Copy>(
     requires { length inputs.now ≤ wires }
     ensures { IfOk result (λ v. v.items ≡ map (slice_index inputs.now) (range_with_len 0 wires)) }
 {
-    let mut labels = Vec::with_capacity(alloc, wires as usize)?;
-    labels.extend_from_slice(inputs)?;
-    labels.resize(wires as usize, Label::ZERO)?;
-    Ok(labels)
+    padded_labels(alloc, wires, inputs)
 }

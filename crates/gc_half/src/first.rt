@@ -47,6 +47,17 @@ impl FirstAnd {
         }
     }
 
+    /// The number after those of `and_gates` AND gates that are numbered from this one on. The caller ensures that the
+    /// sum is at most 2^62.
+    pub(crate) fn plus(self, and_gates: u32) -> FirstAnd
+        requires { self + and_gates ≤ 2 ^ 62 }
+        ensures { result ≡ self + and_gates }
+    {
+        FirstAnd {
+            number: self.number + u64::from(and_gates),
+        }
+    }
+
     /// The first tweak of the k-th AND gate, counted from 0. Its second tweak is the next number.
     #[inline]
     pub(crate) fn tweak(self, k: u32) -> u64

@@ -5,6 +5,7 @@ ghost use Rattle.gc_netlist.specs.Circuit.{Netlist, IsLawful};
 ghost use Rattle.gc_half.specs.declared.garbling.RowPair.{RowPair};
 ghost use Rattle.gc_half.specs.Joined.{FollowingLaw, JoinedLaw, LabelsLaw, TogetherLaw};
 ghost use Rattle.gc_half.specs.Law.{HalfGatesLaw, HasOneGarbling, HasOneEvaluation, HasOneGarbled};
+ghost use Rattle.gc_half.specs.Streaming.{EvaluatedPiecesLaw, GarbledPiecesLaw, InputLabelsLaw};
 
 /// The law of half gates, for every hash: the evaluation of a garbling's rows on labels that stand for input
 /// bits gives each wire that is set the label that stands for its bit, and decodes to the output bits.
@@ -32,4 +33,14 @@ pub fn law_joined()
     ensures together { TogetherLaw }
     ensures following { FollowingLaw }
     ensures joined { JoinedLaw }
+{}
+
+/// The laws of pieces. What a [`StreamingGarbler`](crate::StreamingGarbler) makes is part of the garbling from the same
+/// offset, zero labels and first number, so its pieces are together the row pairs of that garbling (`garbled`); and it
+/// has the given zero labels of the input wires throughout (`inputs`). The active labels that a
+/// [`StreamingEvaluator`](crate::StreamingEvaluator) has are those of any evaluation of all row pairs (`evaluated`).
+pub fn law_pieces()
+    ensures garbled { GarbledPiecesLaw }
+    ensures inputs { InputLabelsLaw }
+    ensures evaluated { EvaluatedPiecesLaw }
 {}

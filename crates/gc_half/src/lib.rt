@@ -13,8 +13,12 @@
 //! [`FirstAnd`] on, and [`evaluate_labels`] returns the active labels of the output wires: so labels that come out of
 //! one circuit can go into the next.
 //!
+//! [`StreamingGarbler`] and [`StreamingEvaluator`] garble and evaluate in pieces: row pairs leave as they are made, and
+//! are used as they come.
+//!
 //! [`law_half_gates`] says that evaluation decodes to the output bits, [`law_garblings`] that each circuit has one
-//! garbling under a seed, and [`law_joined`] what labels that go from circuit to circuit stand for.
+//! garbling under a seed, [`law_joined`] what labels that go from circuit to circuit stand for, and [`law_pieces`] that
+//! the pieces of a circuit are together the whole.
 #![tactic(auto)]
 
 mod active_labels;
@@ -33,10 +37,13 @@ mod laws;
 mod numbers;
 mod one_gate;
 mod row_table;
+mod streaming_evaluator;
+mod streaming_garbler;
 mod table;
 mod two;
 mod waiting;
 mod zero_labels;
+mod zero_table;
 
 pub use active_labels::input_active_labels;
 pub use bit_label::encode;
@@ -50,9 +57,11 @@ pub use half_gate::{
     AndGate, AndStep, eval_and, eval_four_ands, eval_two_ands, garble_and, garble_two_ands,
 };
 pub use hash::{tweak_hash, tweak_hash_series};
-pub use laws::{law_garblings, law_half_gates, law_joined};
+pub use laws::{law_garblings, law_half_gates, law_joined, law_pieces};
 pub use numbers::and_numbers;
 pub use one_gate::{evaluate_gate, garble_gate, labels_read};
+pub use streaming_evaluator::StreamingEvaluator;
+pub use streaming_garbler::StreamingGarbler;
 pub use table::Table;
 pub use two::garble_two;
 pub use waiting::{WaitingGate, WaitingGates};

@@ -29,6 +29,22 @@ pub fn input_zero_labels<A: Allocator + Copy, C: Allocator>(
     Ok(labels)
 }
 
+/// These labels of the input wires, and 16 zero bytes for each other wire. It allocates once. The caller ensures that
+/// there are no more labels than wires.
+pub(crate) fn padded_labels<A: Allocator + Copy>(
+    alloc: A,
+    wires: u32,
+    inputs: &[Label],
+) -> Result<Vec<Label, A>, Memory>
+    requires { length inputs.now ≤ wires }
+    ensures { IfOk result (λ v. v.items ≡ map (slice_index inputs.now) (range_with_len 0 wires)) }
+{
+    let mut labels = Vec::with_capacity(alloc, wires as usize)?;
+    labels.extend_from_slice(inputs)?;
+    labels.resize(wires as usize, Label::ZERO)?;
+    Ok(labels)
+}
+
 /// The zero labels of the input wires under a seed, with room for those of all wires.
 pub(crate) fn labels_of_inputs<A: Allocator + Copy, C: Allocator>(
     alloc: A,

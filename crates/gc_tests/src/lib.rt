@@ -28,6 +28,8 @@ mod store_growth;
 #[cfg(test)]
 mod stores;
 #[cfg(test)]
+mod streaming;
+#[cfg(test)]
 mod ways;
 #[cfg(test)]
 mod workers;

@@ -1,0 +1,38 @@
+use Rattle.gc_half.proofs.Names.{◌≡◌, ◌∙◌, ◌+◌, length, set, ap, arith}
+use Rattle.gc_half.specs.Hash.{hash, numbered_from}
+use Rattle.gc_half.specs.Waiting.{ZeroTableParts, rows_made}
+use Rattle.gc_half.proofs.OneGateLemmas.{free_gate, not_and}
+use Rattle.gc_half.proofs.zero_table.ZeroTable.step.Goals as goal
+
+pub put-requires-clause-once : goal.put-requires-clause-once
+put-requires-clause-once g c = c.make_read.ensures.waiting c.args.gate.set c.requires.once
+
+pub returns-clause-labels : goal.returns-clause-labels
+returns-clause-labels g c =
+    let old = c.args.self.now in
+    let read = c.make_read.ensures in
+    let offset : c.self.inside.offset ≡ old.offset =
+    ap (λ (v : ZeroTableParts). v.offset) c.self.view_is ∙ read.offset in
+    let label = rw (offset, c.read-first.ensures.first, c.read-first.ensures.second, read.labels)
+    at c.garble_gate-label.ensures.zero_label in
+    c.put.ensures.labels
+    ∙ rw read.labels (ap (set old.labels c.args.gate.set) (label
+    ∙ (free_gate (numbered_from old.first hash) old.offset 0 (old.made + length old.waiting)
+    (rows_made old c.args.rows.now) c.args.gate.operation _ _ c.in_default.not-And).0))
+
+pub returns-clause-rows : goal.returns-clause-rows
+returns-clause-rows g c =
+    let old = c.args.self.now in
+    rw (c.put.ensures.numbered, c.put.ensures.made, c.put.ensures.waiting) (c.make_read.ensures.rows
+    ∙ (free_gate (numbered_from old.first hash) old.offset 0 (old.made + length old.waiting)
+    (rows_made old c.args.rows.now) c.args.gate.operation _ _ c.in_default.not-And).1)
+
+pub returns-clause-counted : goal.returns-clause-counted
+returns-clause-counted g c =
+    let other = not_and c.args.gate.operation c.in_default.not-And in
+    rw (c.put.ensures.made, c.put.ensures.waiting, other)
+    (omega (arith, c.make_read.ensures.counted))
+
+pub returns-clause-waiting : goal.returns-clause-waiting
+returns-clause-waiting g c = λ w other before.
+    rw c.put.ensures.waiting (c.make_read.ensures.waiting w before)
