@@ -48,10 +48,9 @@ impl From<ReadFault> for Stop {
 }
 
 impl From<AllocError> for Stop {
-    ghost use Rattle.std.specs.Prelude.{◌≡◌};
-    ghost use Rattle.gc_netlist.specs.declared.fault.ReadFault.TheVariants as faults;
+    ghost use Rattle.gc_circuit.specs.Stop.{IsRefused};
 
-    ghost from_gives = { λ _ s. s.fault ≡ faults.Memory };
+    ghost from_gives = { λ _ s. IsRefused s.fault s.gate s.wire };
 
     fn from(_e: AllocError) -> Stop {
         Stop::from(ReadFault::Memory)
@@ -59,10 +58,9 @@ impl From<AllocError> for Stop {
 }
 
 impl<T: Drop> From<AllocFailed<T>> for Stop {
-    ghost use Rattle.std.specs.Prelude.{◌≡◌};
-    ghost use Rattle.gc_netlist.specs.declared.fault.ReadFault.TheVariants as faults;
+    ghost use Rattle.gc_circuit.specs.Stop.{IsRefused};
 
-    ghost from_gives = { λ _ s. s.fault ≡ faults.Memory };
+    ghost from_gives = { λ _ s. IsRefused s.fault s.gate s.wire };
 
     fn from(_e: AllocFailed<T>) -> Stop {
         Stop::from(ReadFault::Memory)

@@ -1,6 +1,7 @@
 //! Each growth refused in turn of the calls of circuits, values and garbling. What a call returns otherwise is for its
 //! clauses to say.
 
+use crate::arrays::ADDER;
 use gc_circuit::{
     Circuit, Memory, ReadFault, ValueFault, fits, plain_eval, read_value, show_value,
 };
@@ -19,6 +20,7 @@ use std::test::Fail;
 #[derive(Clone, Copy, PartialEq, Debug)]
 enum Call {
     Read,
+    Arrays,
     Copy,
     Canon,
     ReadBits,
@@ -32,8 +34,9 @@ enum Call {
 }
 
 /// The calls, and how many growths each asks for.
-static GROWTHS: [(Call, u64); 11] = [
+static GROWTHS: [(Call, u64); 12] = [
     (Call::Read, 4),
+    (Call::Arrays, 4),
     (Call::Copy, 3),
     (Call::Canon, 4),
     (Call::ReadBits, 1),
@@ -56,6 +59,10 @@ fn answer<A: Allocator + Copy>(
     match call {
         Call::Read => answer_of(
             Circuit::read(heap, FULL_ADDER.as_bytes()),
+            ReadFault::Memory,
+        ),
+        Call::Arrays => answer_of(
+            Circuit::from_arrays(heap, ADDER).map_err(|e| e.fault),
             ReadFault::Memory,
         ),
         Call::Copy => answer_of(circuit.try_clone(heap), Memory),
