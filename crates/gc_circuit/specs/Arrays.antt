@@ -1,4 +1,4 @@
--- Circuits as arrays, and the text that arrays stand for.
+-- Circuits in arrays, and the text that arrays stand for.
 use Rattle.std.specs.Prelude.{◌≡◌, ℕ, ◌==◌, List, [], ◌∷◌, length, map, flat_map, codes, decimal, Option, if◌then◌else◌}
 use Rattle.gc_netlist.specs.declared.fault.ReadFault.{ReadFault}
 use Rattle.gc_netlist.specs.Text.{tokens}
@@ -18,7 +18,7 @@ words_of_two g name =
 abbrev pub words_of_one : GateNumbers → (name : List ℕ) → List Word
 words_of_one g name = Number 1 ∷ Number 1 ∷ Number g.first ∷ Number g.set ∷ Name name ∷ []
 
--- The words of a gate. An operation that there isn't has its number as its name.
+-- The words of a gate. An unknown operation has its number as its name.
 abbrev pub words_of_numbers : GateNumbers → List Word
 words_of_numbers g =
     if g.operation == 0 then words_of_two g (codes "XOR")
@@ -28,7 +28,7 @@ words_of_numbers g =
     else if g.operation == 4 then words_of_one g (codes "EQW")
     else words_of_two g (decimal g.operation)
 
--- The lines of arrays, as those of a circuit.
+-- The lines of arrays, in the order of a circuit's lines.
 abbrev pub lines_of_arrays : (wires : ℕ) (inputs outputs : List ℕ) → List GateNumbers
     → List (List Word)
 lines_of_arrays wires inputs outputs gates =

@@ -1,4 +1,4 @@
-//! Circuits from arrays.
+//! Circuits from arrays of gates.
 
 ghost use Rattle.std.specs.Prelude.{◌≡◌, ◌≢◌, ◌⊎◌, ℕ, ◌≤◌, ◌∷◌, ◌++◌, List, [], length, map, sum, count_by, slice_index_or, false, IfOk, IfErr, OnOk, MatchResult, Some, None, Ok, Err, decimal};
 ghost use Rattle.std.specs.List.{range_with_len};
@@ -11,7 +11,7 @@ ghost use Rattle.gc_circuit.specs.Stop.{GateStops, GatesStop, IsRefused};
 
 use crate::circuit::Circuit;
 use crate::read::{Gates, Widths, check_next, check_outputs, inputs_set, sum_of};
-use crate::stop::{Stop, back_of};
+use crate::stop::Stop;
 use gc_netlist::{Gate, MAX_GATES, MAX_VALUES, MAX_WIRES, Operation, ReadFault};
 use std::alloc::{AllocFailed, Allocator};
 
@@ -21,9 +21,9 @@ use std::alloc::{AllocFailed, Allocator};
 pub struct GateNumbers {
     /// The operation: 0 is XOR, 1 AND, 2 INV, 3 EQ, and 4 EQW.
     pub operation: u32,
-    /// The wire that the gate reads first, and for EQ the constant, 0 or 1.
+    /// The wire that the gate reads first; for EQ the constant, 0 or 1.
     pub first: u32,
-    /// The wire that XOR and AND read second. It is ignored for INV, EQ and EQW.
+    /// The wire that XOR and AND read second. INV, EQ and EQW ignore it.
     pub second: u32,
     /// The wire that the gate sets.
     pub set: u32,
@@ -133,9 +133,9 @@ fn gate_of(numbers: GateNumbers) -> Result<Gate, ReadFault>
     Ok(Gate { operation, set })
 }
 
-/// The gate of these numbers, checked against those before it, of which there are `place`.
+/// The gate of these numbers, checked against those before it, of which there are `number`.
 #[inline(always)]
-fn next_gate(numbers: GateNumbers, is_set: &[bool], place: u32) -> Result<Gate, Stop>
+fn next_gate(numbers: GateNumbers, is_set: &[bool], number: u32) -> Result<Gate, Stop>
     ensures words { IfOk result (λ g. words_of_gate g ≡ words_of_numbers numbers) }
     ensures read { IfOk result (λ g. (rest : List (List ℕ)) →
         gate_at (map written (words_of_numbers numbers) ++ rest) ≡ Ok (g, rest)) }
@@ -144,20 +144,13 @@ fn next_gate(numbers: GateNumbers, is_set: &[bool], place: u32) -> Result<Gate, 
     ensures stops { IfErr result (λ s. (rest : List (List ℕ)) → (left : List (List ℕ))
         × GateStops (length is_set.now) (λ w. slice_index_or is_set.now w false)
         (map written (words_of_numbers numbers) ++ rest) left s.fault s.back s.wire) }
-    ensures in_gate { IfErr result (λ s. s.gate ≡ Some place) }
+    ensures in_gate { IfErr result (λ s. s.gate ≡ Some number) }
 {
     let gate = match gate_of(numbers) {
         Ok(gate) => gate,
-        Err(fault) => {
-            return Err(Stop {
-                fault,
-                back: back_of(fault),
-                gate: Some(place),
-                wire: None,
-            });
-        }
+        Err(fault) => return Err(Stop::in_gate(fault, number)),
     };
-    check_next(gate, is_set, place)?;
+    check_next(gate, is_set, number)?;
     Ok(gate)
 }
 
@@ -215,11 +208,11 @@ fn take_in_order<A: Allocator + Copy>(alloc: A, arrays: Arrays<'_>) -> Result<Ci
 }
 
 impl<A: Allocator + Copy> Circuit<A> {
-    /// A circuit from arrays. Returns the circuit exactly where the text that the arrays stand for is its canonical
+    /// Makes a circuit of arrays. Returns the circuit exactly where the text that the arrays stand for is its canonical
     /// text, and otherwise the first fault of that text, as `read` does, with its gate and its wire. `Memory` replaces
     /// the circuit, or a later fault, only where an allocation was refused.
     ///
-    /// An operation above 4 is an unknown name in that text.
+    /// In that text an operation above 4 is an unknown name, and a count above 4,294,967,295 is no number.
     pub fn from_arrays(alloc: A, arrays: Arrays<'_>) -> Result<Circuit<A>, ArraysFault>
         ensures lawful { IfOk result IsLawful }
         ensures canonical { IfOk result (λ c. canonical_text c ≡ text_of arrays.entry) }

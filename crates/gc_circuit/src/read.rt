@@ -10,7 +10,7 @@ ghost use Rattle.gc_circuit.specs.Stop.{GateStops, GatesStop, IsUnset};
 
 use crate::checks::{check_gate, wire_at_fault};
 use crate::circuit::Circuit;
-use crate::stop::{Stop, back_of};
+use crate::stop::Stop;
 use gc_netlist::{Gate, MAX_GATES, MAX_VALUES, MAX_WIRES, ReadFault};
 use gc_tokens::{Tokens, read_gate};
 use std::alloc::Allocator;
@@ -149,14 +149,7 @@ fn next_gate(tokens: &mut Tokens<'_>, is_set: &[bool], number: u32) -> Result<Ga
 {
     let gate = match read_gate(tokens) {
         Ok(gate) => gate,
-        Err(fault) => {
-            return Err(Stop {
-                fault,
-                back: back_of(fault),
-                gate: Some(number),
-                wire: None,
-            });
-        }
+        Err(fault) => return Err(Stop::in_gate(fault, number)),
     };
     check_next(gate, is_set, number)?;
     Ok(gate)

@@ -1,4 +1,4 @@
-ghost use Rattle.std.specs.Prelude.{◌≡◌};
+ghost use Rattle.std.specs.Prelude.{◌≡◌, Some, None};
 ghost use Rattle.gc_netlist.specs.Met.{back_of};
 
 use gc_netlist::ReadFault;
@@ -25,6 +25,22 @@ pub(crate) fn back_of(fault: ReadFault) -> usize
         | ReadFault::WidthsExceedWires => 1,
         ReadFault::BadConstant => 3,
         _ => 0,
+    }
+}
+
+impl Stop {
+    /// A fault that is found in this gate and is about no wire.
+    #[cold]
+    pub(crate) fn in_gate(fault: ReadFault, gate: u32) -> Stop
+        ensures { (result.fault ≡ fault) × (result.back ≡ back_of fault)
+            × (result.gate ≡ Some gate) × (result.wire ≡ None) }
+    {
+        Stop {
+            fault,
+            back: back_of(fault),
+            gate: Some(gate),
+            wire: None,
+        }
     }
 }
 

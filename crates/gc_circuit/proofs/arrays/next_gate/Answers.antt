@@ -5,7 +5,8 @@ use Rattle.gc_circuit.proofs.arrays.next_gate.Goals as goal
 
 pub returns-in-Err-clause-stops : goal.returns-in-Err-clause-stops
 returns-in-Err-clause-stops c =
-    λ rest. (_, inl (c.in-Err.ensures.fault rest, refl, c.back_of.ensures, refl))
+    let e = c.in_gate.ensures in
+    rw e.0 (λ rest. (_, inl (c.in-Err.ensures.fault rest, refl, e.1, e.3)))
 
 pub returns-in_err-check_next-clause-stops : goal.returns-in_err-check_next-clause-stops
 returns-in_err-check_next-clause-stops c =
