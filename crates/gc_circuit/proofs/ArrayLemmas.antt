@@ -1,5 +1,5 @@
 -- The text that arrays stand for, as tokens.
-use Rattle.std.proofs.Common.{◌≡◌, ℕ, suc, ◌+◌, ◌<◌, ◌≤◌, ◌^◌, inl, inr, ◌++◌, List, [], ◌∷◌, Bool, true, false, Option, Some, None, Ok, Err, length, map, sum, slice_index_or, take, drop, get_or, append_assoc, nat_le, nat_lt, codes, decimal, refl, sym, ap, ◌∙◌, bytes_eq, if◌then◌else◌, arith}
+use Rattle.std.proofs.Common.{◌≡◌, ℕ, suc, ◌+◌, ◌<◌, ◌≤◌, ◌^◌, inl, inr, ◌++◌, List, [], ◌∷◌, Bool, false, Option, Some, None, Ok, Err, length, map, sum, slice_index_or, take, drop, get_or, nat_le, nat_lt, codes, decimal, refl, sym, ap, ◌∙◌, bytes_eq, if◌then◌else◌, arith}
 use Rattle.std.specs.List.{flat_map, range_with_len, AllByRecursion}
 use Rattle.std.proofs.lemmas.Bool.{cases_Bool}
 use Rattle.std.proofs.lemmas.Bool.Decides.{nat_tests}
@@ -203,7 +203,9 @@ module _ (wires inputs : ℕ) (numbers : List GateNumbers) (i : ℕ) (d : GateNu
       (left : List (List ℕ))
       × GatesStop wires inputs (length numbers) (tokens_of numbers) left e back gate wire
   numbers_stop marks e back gate wire is len in_gate stops =
-      let (left, here) = stops (tokens_of (drop (i + 1) numbers)) in
-      (left, gates_stop wires inputs (length numbers) i before (tokens_of numbers)
-      (tokens_of (drop i numbers)) left e back wire below so_far
-      (rw next (stops_found inputs wires before marks is _ _ _ _ _ here)) gate len in_gate)
+      let (left, here) = stops (tokens_of (drop (i + 1) numbers)) in (
+        left,
+        gates_stop wires inputs (length numbers) i before (tokens_of numbers)
+            (tokens_of (drop i numbers)) left e back wire below so_far
+            (rw next (stops_found inputs wires before marks is _ _ _ _ _ here)) gate len in_gate,
+      )
