@@ -80,7 +80,7 @@ fn faults_of_gates(rt: HostRuntime) -> Result<(), Fail> {
         (and, gate(5, 9, 9, 9), ReadFault::UnknownOperation, 1, None),
         (
             and,
-            gate(u32::MAX, 0, 1, 3),
+            gate(256, 0, 1, 3),
             ReadFault::UnknownOperation,
             1,
             None,
@@ -99,7 +99,13 @@ fn faults_of_gates(rt: HostRuntime) -> Result<(), Fail> {
         ),
         (and, gate(4, 0, 0, 2), ReadFault::SetTwice, 1, Some(2)),
         (gate(3, 0, 0, 1), and, ReadFault::SetTwice, 0, Some(1)),
-        (and, gate(6, 2, 1, 0), ReadFault::UnknownOperation, 1, None),
+        (
+            gate(0, 0, 3, 2),
+            gate(5, 0, 1, 3),
+            ReadFault::Unset,
+            0,
+            Some(3),
+        ),
     ];
     for (first, second, fault, at, wire) in cases {
         let arrays = Arrays {
