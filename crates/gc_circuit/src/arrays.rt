@@ -1,6 +1,6 @@
 //! Circuits from arrays of gates.
 
-ghost use Rattle.std.specs.Prelude.{◌≡◌, ◌≢◌, ◌⊎◌, ℕ, ◌≤◌, ◌∷◌, ◌++◌, List, [], length, map, sum, count_by, slice_index_or, false, IfOk, IfErr, OnOk, MatchResult, Some, None, Ok, Err, decimal};
+ghost use Rattle.std.specs.Prelude.{◌≡◌, ◌≢◌, ◌⊎◌, ℕ, ◌≤◌, ◌∷◌, ◌++◌, List, [], length, map, sum, count_by, slice_index_or, true, false, IfOk, IfErr, OnOk, MatchResult, Some, None, Ok, Err, decimal};
 ghost use Rattle.std.specs.List.{range_with_len};
 ghost use Rattle.gc_netlist.specs.Circuit.{Netlist, IsLawful, is_and};
 ghost use Rattle.gc_netlist.specs.Spelling.{words_of_gate, words_of_widths};
@@ -105,6 +105,18 @@ fn copy_widths<A: Allocator>(alloc: A, widths: &[u32], wires: u32) -> Result<Wid
     })
 }
 
+/// AND or XOR. It is chosen without a branch, which no processor would predict.
+fn operation_of_two(is_and: bool, first: u32, second: u32) -> Operation
+    ensures and { is_and ≡ true → result ≡ Operation.And first second }
+    ensures xor { is_and ≡ false → result ≡ Operation.Xor first second }
+{
+    if is_and {
+        Operation::And(first, second)
+    } else {
+        Operation::Xor(first, second)
+    }
+}
+
 /// The gate of these numbers.
 #[inline(always)]
 fn gate_of(numbers: GateNumbers) -> Result<Gate, ReadFault>
@@ -118,17 +130,17 @@ fn gate_of(numbers: GateNumbers) -> Result<Gate, ReadFault>
         second,
         set,
     } = numbers;
-    let operation = match operation {
-        0 => Operation::Xor(first, second),
-        1 => Operation::And(first, second),
-        2 => Operation::Inv(first),
-        3 => match first {
-            0 => Operation::Eq(false),
-            1 => Operation::Eq(true),
-            _ => return Err(ReadFault::BadConstant),
-        },
-        4 => Operation::Eqw(first),
-        _ => return Err(ReadFault::UnknownOperation),
+    let operation = if operation < 2 {
+        operation_of_two(operation == 1, first, second)
+    } else {
+        match (operation, first) {
+            (2, _) => Operation::Inv(first),
+            (3, 0) => Operation::Eq(false),
+            (3, 1) => Operation::Eq(true),
+            (3, _) => return Err(ReadFault::BadConstant),
+            (4, _) => Operation::Eqw(first),
+            _ => return Err(ReadFault::UnknownOperation),
+        }
     };
     Ok(Gate { operation, set })
 }
