@@ -3,7 +3,8 @@
  * renames to proved_halfgates_..
  *
  * A handle: the proved export takes the address of a pointer that is private to this call, by which it reads what the
- * handle holds. So several calls may read one handle at once. A list of handles is copied for the same reason.
+ * handle holds, or changes it where the handle isn't const. So several calls may read one handle at once. A list of
+ * handles is copied for the same reason.
  *
  * A buffer: a slice of Rattle is never NULL. Where C passes a NULL, the proved export sees another address, and can't
  * look. So each function here refuses a NULL that has a size.
@@ -48,17 +49,34 @@ PROVED(halfgates_label_file);
 PROVED(halfgates_evaluate_labels);
 PROVED(halfgates_job_output_labels);
 PROVED(halfgates_decode);
+PROVED(halfgates_circuit_from_gates);
+PROVED(halfgates_rows_range);
+PROVED(halfgates_open);
+PROVED(halfgates_garbler_begin);
+PROVED(halfgates_garbler_begin_from);
+PROVED(halfgates_garbler_offset);
+PROVED(halfgates_garbler_next);
+PROVED(halfgates_garbler_decode_bits);
+PROVED(halfgates_evaluator_begin);
+PROVED(halfgates_evaluator_feed);
+PROVED(halfgates_evaluator_output_labels);
 
 /* These take the size of each of their buffers. */
 extern int32_t proved_halfgates_input_labels(const halfgates_garbling *garbling, uint32_t index, uint8_t *zero,
                                              size_t zero_size, uint8_t *one, size_t one_size);
 extern int32_t proved_halfgates_output_labels(const halfgates_garbling *garbling, uint32_t index, uint8_t *zero,
                                               size_t zero_size, uint8_t *one, size_t one_size);
+extern int32_t proved_halfgates_garbler_input_labels(const halfgates_garbler *garbler, uint32_t index, uint8_t *zero,
+                                                     size_t zero_size, uint8_t *one, size_t one_size);
+extern int32_t proved_halfgates_garbler_output_labels(const halfgates_garbler *garbler, uint32_t index, uint8_t *zero,
+                                                      size_t zero_size, uint8_t *one, size_t one_size);
 extern int32_t proved_halfgates_garble_many(const halfgates_circuit *circuit, const uint8_t *seeds, size_t count,
                                             halfgates_garbling **garblings, size_t garblings_count);
 
 /* These write to the list of handles, and put it back. */
 extern int32_t proved_halfgates_evaluate_many(halfgates_job **jobs, size_t count, uint8_t *bits, size_t size);
+extern int32_t proved_halfgates_evaluate_each(halfgates_job **jobs, size_t count, uint8_t *bits, size_t size,
+                                              int32_t *codes, size_t codes_count);
 extern int32_t proved_halfgates_write_many(halfgates_garbling **garblings, size_t count, uint32_t version,
                                            uint8_t *files, size_t size);
 
@@ -133,6 +151,17 @@ int32_t halfgates_locate(const uint8_t *text, size_t length, halfgates_place *pl
     return proved_halfgates_locate(text, length, place);
 }
 
+int32_t halfgates_circuit_from_gates(const halfgates_gate *gates, size_t count, uint32_t wires,
+                                     const uint32_t *input_widths, size_t input_values,
+                                     const uint32_t *output_widths, size_t output_values,
+                                     halfgates_circuit **circuit, halfgates_place *place) {
+    halfgates_place unwanted;
+    if (!is_there(gates, count) || !is_there(input_widths, input_values) || !is_there(output_widths, output_values))
+        return HALFGATES_NULL_POINTER;
+    return proved_halfgates_circuit_from_gates(gates, count, wires, input_widths, input_values, output_widths,
+                                               output_values, circuit, place == NULL ? &unwanted : place);
+}
+
 int32_t halfgates_plain(const halfgates_circuit *circuit, const uint8_t *bits, size_t size, uint8_t *outputs,
                         size_t outputs_size) {
     if (!is_there(bits, size) || !is_there(outputs, outputs_size))
@@ -200,6 +229,17 @@ int32_t halfgates_evaluate_many(halfgates_job *const *jobs, size_t count, uint8_
     return code;
 }
 
+int32_t halfgates_evaluate_each(halfgates_job *const *jobs, size_t count, uint8_t *bits, size_t size, int32_t *codes) {
+    void *lent;
+    if (!is_there(jobs, count) || !is_there(bits, size) || !is_there(codes, count))
+        return HALFGATES_NULL_POINTER;
+    if (!copy_handles(jobs, count, &lent))
+        return HALFGATES_MEMORY;
+    const int32_t code = proved_halfgates_evaluate_each(lent, count, bits, size, codes, count);
+    free(lent);
+    return code;
+}
+
 int32_t halfgates_write_many(halfgates_garbling *const *garblings, size_t count, uint32_t version, uint8_t *files,
                              size_t size) {
     void *lent;
@@ -260,6 +300,20 @@ int32_t halfgates_rows(const halfgates_garbling *garbling, uint8_t *rows, size_t
     return proved_halfgates_rows(LENT(garbling), rows, size);
 }
 
+int32_t halfgates_rows_range(const halfgates_garbling *garbling, uint32_t from, uint32_t count, uint8_t *rows,
+                             size_t size) {
+    if (!is_there(rows, size))
+        return HALFGATES_NULL_POINTER;
+    return proved_halfgates_rows_range(LENT(garbling), from, count, rows, size);
+}
+
+int32_t halfgates_open(const halfgates_garbling *garbling, uint32_t index, const uint8_t *labels, size_t labels_size,
+                       uint8_t *bits, size_t size) {
+    if (!is_there(labels, labels_size) || !is_there(bits, size))
+        return HALFGATES_NULL_POINTER;
+    return proved_halfgates_open(LENT(garbling), index, labels, labels_size, bits, size);
+}
+
 int32_t halfgates_decode_bits(const halfgates_garbling *garbling, uint8_t *bits, size_t size) {
     if (!is_there(bits, size))
         return HALFGATES_NULL_POINTER;
@@ -300,4 +354,65 @@ int32_t halfgates_decode(const uint8_t *labels, size_t labels_size, const uint8_
     if (!is_there(labels, labels_size) || !is_there(decode_bits, count) || !is_there(bits, size))
         return HALFGATES_NULL_POINTER;
     return proved_halfgates_decode(labels, labels_size, decode_bits, count, bits, size);
+}
+
+int32_t halfgates_garbler_begin(const halfgates_circuit *circuit, const uint8_t seed[32], halfgates_garbler **garbler) {
+    return proved_halfgates_garbler_begin(LENT(circuit), seed, garbler);
+}
+
+int32_t halfgates_garbler_begin_from(const halfgates_circuit *circuit, const uint8_t offset[16],
+                                     const uint8_t *zero_labels, size_t size, uint64_t first,
+                                     halfgates_garbler **garbler) {
+    if (!is_there(zero_labels, size))
+        return HALFGATES_NULL_POINTER;
+    return proved_halfgates_garbler_begin_from(LENT(circuit), offset, zero_labels, size, first, garbler);
+}
+
+int32_t halfgates_garbler_offset(const halfgates_garbler *garbler, uint8_t offset[16]) {
+    return proved_halfgates_garbler_offset(LENT(garbler), offset);
+}
+
+int32_t halfgates_garbler_input_labels(const halfgates_garbler *garbler, uint32_t index, uint8_t *zero, uint8_t *one,
+                                       size_t size) {
+    if (!is_there(zero, size) || !is_there(one, size))
+        return HALFGATES_NULL_POINTER;
+    return proved_halfgates_garbler_input_labels(LENT(garbler), index, zero, size, one, size);
+}
+
+int32_t halfgates_garbler_next(halfgates_garbler *garbler, uint8_t *rows, size_t size, size_t *written) {
+    if (!is_there(rows, size))
+        return HALFGATES_NULL_POINTER;
+    return proved_halfgates_garbler_next(LENT(garbler), rows, size, written);
+}
+
+int32_t halfgates_garbler_output_labels(const halfgates_garbler *garbler, uint32_t index, uint8_t *zero, uint8_t *one,
+                                        size_t size) {
+    if (!is_there(zero, size) || !is_there(one, size))
+        return HALFGATES_NULL_POINTER;
+    return proved_halfgates_garbler_output_labels(LENT(garbler), index, zero, size, one, size);
+}
+
+int32_t halfgates_garbler_decode_bits(const halfgates_garbler *garbler, uint8_t *bits, size_t size) {
+    if (!is_there(bits, size))
+        return HALFGATES_NULL_POINTER;
+    return proved_halfgates_garbler_decode_bits(LENT(garbler), bits, size);
+}
+
+int32_t halfgates_evaluator_begin(const halfgates_circuit *circuit, uint64_t first, const uint8_t *labels, size_t size,
+                                  halfgates_evaluator **evaluator) {
+    if (!is_there(labels, size))
+        return HALFGATES_NULL_POINTER;
+    return proved_halfgates_evaluator_begin(LENT(circuit), first, labels, size, evaluator);
+}
+
+int32_t halfgates_evaluator_feed(halfgates_evaluator *evaluator, const uint8_t *rows, size_t size, size_t *taken) {
+    if (!is_there(rows, size))
+        return HALFGATES_NULL_POINTER;
+    return proved_halfgates_evaluator_feed(LENT(evaluator), rows, size, taken);
+}
+
+int32_t halfgates_evaluator_output_labels(const halfgates_evaluator *evaluator, uint8_t *labels, size_t size) {
+    if (!is_there(labels, size))
+        return HALFGATES_NULL_POINTER;
+    return proved_halfgates_evaluator_output_labels(LENT(evaluator), labels, size);
 }

@@ -113,8 +113,14 @@ class FromC(LibraryTest):
     def test_bad_arguments(self):
         self.run_built(SOURCES / "arguments.c")
 
+    def test_gates(self):
+        self.run_built(SOURCES / "gates.c")
+
     def test_labels(self):
         self.run_built(SOURCES / "labels.c")
+
+    def test_streaming(self):
+        self.run_built(SOURCES / "streaming.c")
 
     def test_null_with_a_size(self):
         self.run_built(SOURCES / "null.c")
