@@ -196,6 +196,9 @@ MISUSES = {
     "a seed of a list": "auto garbling = circuit.garble({{3}});",
     "outputs dropped": "circuit.plain({1, 1});",
     "a garbling dropped": "circuit.garble(halfgates::seed::random());",
+    "a garbler dropped": "circuit.garbler(halfgates::seed::random());",
+    "how much was taken dropped": "circuit.evaluator(0, {}).feed({});",
+    "a copy of a garbler": "halfgates::garbler one; halfgates::garbler other = one;",
     "a copy of a handle": "halfgates::circuit other = circuit;",
 }
 
