@@ -68,7 +68,7 @@ def stack_of_header():
 
 def declared_codes():
     """The codes of the header, by name."""
-    header = (INCLUDE / "halfgates.h").read_text()
+    header = (INCLUDE / "halfgates.h").read_text().partition("typedef")[0]
     return {name: int(code) for name, code in re.findall(r"^    HALFGATES_(\w+) = (\d+)", header, re.M)}
 
 
