@@ -10,7 +10,7 @@ import unittest
 from pathlib import Path
 from shutil import which
 
-from inputs import draws, respelled, worked_circuits
+from inputs import chain_of_ands, draws, respelled, worked_circuits
 from library import (
     ARCHIVE, INCLUDE, LIB_DIR, LIBRARY, SONAME, WARNINGS, build, compiler, demand_library, environment_of_python,
     sanitizers, shared_library, tool,
@@ -170,7 +170,7 @@ class FromC(LibraryTest):
                     self.assertEqual(said, "", (source.name, command, level))
 
     def test_files_that_the_examples_cannot_read(self):
-        for name, words in (("two_parties", "7 9"), ("sha256_chain", "abc")):
+        for name, words in (("two_parties", "7 9"), ("pipelined", "7 9"), ("sha256_chain", "abc")):
             program = self.folder / name
             build(EXAMPLES / f"c/{name}.c", program)
             for place, said in ((self.folder, "Is a directory"), (self.folder / "none", "No such file or directory")):
@@ -184,6 +184,16 @@ class FromC(LibraryTest):
         sum_of_both = str(2**63 + 12345)
         words = EXAMPLES / "adder64.txt", str(2**63), "12345"
         self.assertEqual(self.run_built(example, *words), f"{sum_of_both}\n")
+
+
+    def test_pipelined(self):
+        example, less8 = EXAMPLES / "c/pipelined.c", EXAMPLES / "less8.txt"
+        self.assertEqual(self.run_built(example, less8, "7", "9"), "1\n")
+        self.assertEqual(self.run_built(example, less8, "9", "7"), "0\n")
+        several = self.folder / "several"
+        several.write_text(chain_of_ands(10_000))
+        self.assertEqual(self.run_built(example, several, "255", "255"), "255\n")
+        self.assertEqual(self.run_built(example, several, "191", "255"), "191\n")
 
 
 # What the C++ header keeps a program from: each would compile with an earlier version of it.
