@@ -157,6 +157,20 @@ class FromC(LibraryTest):
         for name, kilobytes in said.items():
             self.assertLess(1000 * kilobytes, 2 * most[name], name)
 
+    def test_memory_of_handles(self):
+        """The bytes of each handle are those that the documents give, and it takes little more while it is made."""
+        page = (TOP / "docs/LIBRARY.md").read_text().partition("## Memory\n")[2].partition("\n## ")[0]
+        rows = re.findall(r"^\| (\w+) \| (\d+) \| (\d+) \| (\d+) \| (\d+) \|$", page, re.M)
+        said = {handle: [int(it) for it in figures] for handle, *figures in rows}
+        program, found = self.folder / "sizes", {}
+        build(SOURCES / "sizes.c", program, *WRAPPED)
+        for line in subprocess.run([program], capture_output=True, text=True, check=True).stdout.splitlines():
+            handle, *words = line.split()
+            found[handle] = [int(it) for it in words[1::3]]
+            for kept, peak in zip(found[handle], map(int, words[2::3])):
+                self.assertLessEqual(peak, kept + 16, line)
+        self.assertEqual(found, said)
+
     def test_a_million_gates(self):
         self.run_built(SOURCES / "million.c")
 
