@@ -2,12 +2,9 @@
  * Which code of the library an x86-64 processor gets: each feature of x86-64-v3 counts, and nothing else does. Prints
  * what it is here, 1 for x86-64-v3 and else 0, as threads find it that ask at once.
  */
+#include "../../c/processor.h"
 #include <pthread.h>
-#include <stdint.h>
 #include <stdio.h>
-
-int has_v3(const uint32_t words[4]);
-int is_v3(void);
 
 enum { THREADS = 8 };
 
