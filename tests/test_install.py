@@ -281,8 +281,8 @@ class InstallTest(unittest.TestCase):
         os.utime(built / SONAME, (later, later))
 
     def test_what_was_built_since_the_release(self):
-        """The library of out/lib/ with its headers, in the place of the release's, also of one that earlier releases had
-        for newer processors."""
+        """The library of out/lib/ with its headers, in the place of the release's. One that an earlier release had for
+        newer processors is gone."""
         self.install()
         earlier = self.prefix / "lib/glibc-hwcaps/x86-64-v3" / SONAME
         earlier.parent.mkdir(parents=True)
@@ -330,15 +330,13 @@ class InstallTest(unittest.TestCase):
 
 @unittest.skipUnless(IS_RELEASE, "the library under test is not that of a release")
 class Processors(unittest.TestCase):
-    """Each program of a release is for its own kind of processor, and the library for both. Code for x86-64-v3 uses
-    registers of AVX."""
+    """Each program of a release is for its own kind of processor. That for x86-64-v3 uses registers of AVX."""
 
     def test_instructions(self):
-        newer = "v3/halfgates", f"lib/{SONAME}", "lib/libhalfgates.a"
-        for name in ("halfgates", *newer):
+        for name in ("halfgates", "v3/halfgates"):
             words = [tool("objdump"), "--disassemble", "--no-show-raw-insn", RELEASE / name]
             printed = subprocess.run(words, capture_output=True, text=True, check=True).stdout
-            self.assertEqual("%ymm" in printed, name in newer, name)
+            self.assertEqual("%ymm" in printed, name == "v3/halfgates", name)
 
     @unittest.skipUnless(which("qemu-x86_64"), "there is no qemu-x86_64: the programs are not run on older processors")
     def test_older_processors(self):
