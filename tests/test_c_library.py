@@ -13,7 +13,7 @@ from shutil import which
 from inputs import chain_of_ands, draws, respelled, worked_circuits
 from library import (
     ARCHIVE, INCLUDE, LIB_DIR, LIBRARY, SONAME, WARNINGS, build, compiler, demand_library, environment_of_python,
-    sanitizers, shared_library, tool,
+    sanitizers, tool,
 )
 from program import EXAMPLES, TOP, sealed
 from test_workers import layered
@@ -317,7 +317,7 @@ class Files(LibraryTest):
         words = [program, EXAMPLES / "less8.txt", "1", "2"]
         done = subprocess.run(words, env=environment, capture_output=True, text=True, check=False)
         self.assertEqual((done.returncode, done.stdout), (0, "1\n"))
-        self.assertIn(f"calling init: {shared_library(LIB_DIR)}\n", done.stderr)
+        self.assertIn(f"calling init: {LIB_DIR / SONAME}\n", done.stderr)
 
     def test_arm64(self):
         """The example runs on the library for ARM64, where there is an emulator."""
