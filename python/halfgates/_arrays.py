@@ -41,7 +41,7 @@ Gates = Union[Buffer, Iterable[Tuple[int, int, int, int]]]
 
 @contextmanager
 def lent_gates(gates: Gates) -> Iterator[Lent]:
-    """The bytes of gates: those of a buffer in place."""
+    """The bytes of gates: those of a buffer in place, but for one whose numbers lie where the machine has none."""
     try:
         view = memoryview(gates)  # type: ignore[arg-type]
     except TypeError:
@@ -50,9 +50,14 @@ def lent_gates(gates: Gates) -> Iterator[Lent]:
         with view:
             if view.format not in _UNSIGNED or view.itemsize != _NUMBER or view.nbytes % GATE:
                 raise TypeError("a buffer of gates has unsigned numbers of 32 bits, four of each gate")
-        data = gates
+            data = gates if _is_aligned(gates) else array("I", view.tobytes())
     with Lent(data) as lent:
         yield lent
+
+
+def _is_aligned(data: object) -> bool:
+    with Lent(data) as lent:
+        return lent.size == 0 or (lent.at or 0) % _NUMBER == 0
 
 
 def _packed(gates: Iterable[Tuple[int, int, int, int]]) -> "array[int]":
