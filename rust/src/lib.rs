@@ -74,9 +74,9 @@
 //!
 //! # Secrets
 //!
-//! Whoever has a seed, a [`Garbling`] or a [`Garbler`] knows every label. The vectors that calls return
-//! are not
-//! wiped when they are dropped. `SECURITY.md` of the repository says what the library promises.
+//! Whoever has a seed, a [`Garbling`] or a [`Garbler`] knows every label. The vectors that calls
+//! return are not wiped when they are dropped. `SECURITY.md` of the repository says what the library
+//! promises.
 
 mod call;
 mod circuit;
