@@ -4,7 +4,7 @@
  *
  *   streaming CIRCUIT REPEATS
  *
- * `garble` is halfgates_garble and halfgates_rows, `garble256` and `garble4096` are a garbler that gives pieces of so
+ * `garble` is halfgates_garble and halfgates_rows, `garble256` and `garble4096` are a garbler with pieces of this
  * many AND gates; `evaluate`, `evaluate256` and `evaluate4096` the same of an evaluation. `apart` and `pipelined` are
  * two processes over a socket, from the labels of the inputs to those of the outputs: one after another, with all row
  * pairs at once, and with pieces of 4,096. `first_apart` and `first_pipelined` are when the evaluator has its first row

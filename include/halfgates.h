@@ -61,16 +61,16 @@
  * so a wire's labels have different colours. AND gates are numbered in file order, from a number `first` on: 0 under a
  * seed. Under one offset use no AND number twice: the next circuit's `first` is at least this one's `first` plus its
  * number of AND gates. Two AND gates of one number that read the same wire first reveal the offset: their generator
- * rows differ by it or by nothing. Where a garbler is given up half way, all its numbers count as used, from `first` to
+ * rows differ by it or by nothing. If a garbler is freed before its end, all its numbers count as used, from `first` to
  * `first` plus its number of AND gates. Garbled files are those of `first` 0. In version 2 their entries use the
  * numbers behind the AND gates, so leave (output wires + 1) / 2 more numbers free where such a file is sent. The
  * library can't check any of this.
  *
- * STREAMING. halfgates_garbler_begin or halfgates_garbler_begin_from makes a garbler, and halfgates_garbler_next gives
- * its row pairs in file order, in pieces of any size; halfgates_evaluator_feed takes them as they come. Together the
- * pieces are the row pairs of halfgates_garble or halfgates_garble_from, and the evaluator's output labels are those of
- * halfgates_evaluate_labels. Neither keeps row pairs, and both take all their memory when they begin. Send the labels
- * of input wires, such as by an oblivious transfer, before the row pairs or beside them, and decode bits last:
+ * STREAMING. halfgates_garbler_begin or halfgates_garbler_begin_from makes a garbler, and halfgates_garbler_next
+ * produces its row pairs in file order, in pieces of any size; halfgates_evaluator_feed takes them as they come.
+ * Together the pieces are the row pairs of halfgates_garble or halfgates_garble_from, and the evaluator's output labels
+ * are those of halfgates_evaluate_labels. Neither keeps row pairs, and both allocate only when they begin. Send the
+ * labels of input wires, such as by an oblivious transfer, before the row pairs or beside them, and decode bits last:
  *
  *     garbler: begin, offset and input labels, next .. next, output labels, decode bits, free
  *     evaluator: begin with active labels, feed .. feed, output labels, free
@@ -512,12 +512,12 @@ int32_t halfgates_decode(const uint8_t *labels, size_t labels_size, const uint8_
 
 /* --------------------------------------------------------------------------------------------------- streaming -- */
 
-/* A garbling in progress. It gives its row pairs in pieces, in file order, and keeps none of them. */
+/* A garbling in progress. It produces its row pairs in pieces, in file order, and keeps none of them. */
 typedef struct halfgates_garbler halfgates_garbler;
 
 /*
- * Begins to garble a circuit under a seed of 32 bytes, as halfgates_garble does. All memory that later calls need is
- * taken here. Codes: HALFGATES_GARBLING_MEMORY, HALFGATES_MEMORY.
+ * Begins to garble a circuit under a seed of 32 bytes, as halfgates_garble does. It allocates all that later calls
+ * need. Codes: HALFGATES_GARBLING_MEMORY, HALFGATES_MEMORY.
  */
 int32_t halfgates_garbler_begin(const halfgates_circuit *circuit, const uint8_t seed[32], halfgates_garbler **garbler);
 
@@ -529,7 +529,7 @@ int32_t halfgates_garbler_begin_from(const halfgates_circuit *circuit, const uin
                                      const uint8_t *zero_labels, size_t size, uint64_t first,
                                      halfgates_garbler **garbler);
 
-/* Frees a garbler, at any time: before its end this gives the garbling up. */
+/* Frees a garbler, at any time: before its end this abandons the garbling. */
 void halfgates_garbler_free(halfgates_garbler *garbler);
 
 /* Writes the offset of a garbler, 16 bytes, from the beginning on. */
@@ -543,10 +543,10 @@ int32_t halfgates_garbler_input_labels(const halfgates_garbler *garbler, uint32_
                                        size_t size);
 
 /*
- * Garbles on in file order: writes as many whole row pairs, 32 bytes each, as `size` bytes have room for, and the
- * number of bytes to `written`. It writes 0 there once all row pairs are written. What `rows` has behind them stays. It
- * allocates nothing. Code: HALFGATES_SMALL_BUFFER where `size` is less than 32 and row pairs are left; then nothing
- * changes. This call needs the garbler alone.
+ * Garbles the next AND gates in file order: writes as many whole row pairs, 32 bytes each, as `size` bytes have room
+ * for, and the number of bytes to `written`. It writes 0 there once all row pairs are written. What `rows` has behind
+ * them stays. It allocates nothing. Code: HALFGATES_SMALL_BUFFER where `size` is less than 32 and row pairs are left;
+ * then nothing changes. This call needs the garbler alone.
  */
 int32_t halfgates_garbler_next(halfgates_garbler *garbler, uint8_t *rows, size_t size, size_t *written);
 
@@ -569,7 +569,7 @@ typedef struct halfgates_evaluator halfgates_evaluator;
 
 /*
  * Begins to evaluate a circuit with the active labels of all input wires, `size` bytes, which is 16 * input_wires, and
- * the number `first` of its first AND gate. All memory that later calls need is taken here. Nothing of the labels is
+ * the number `first` of its first AND gate. It allocates all that later calls need. Nothing of the labels is
  * trusted. Codes: HALFGATES_WRONG_SIZE, HALFGATES_BAD_ARGUMENT where `first` is too large, HALFGATES_JOB_MEMORY,
  * HALFGATES_MEMORY.
  */
@@ -580,10 +580,10 @@ int32_t halfgates_evaluator_begin(const halfgates_circuit *circuit, uint64_t fir
 void halfgates_evaluator_free(halfgates_evaluator *evaluator);
 
 /*
- * Evaluates on in file order with the whole row pairs that `size` bytes have, 32 bytes each, and writes the number of
- * their bytes to `taken`: a part of a row pair at the end is left for the next call. Nothing of the row pairs is
- * trusted. It allocates nothing. Code: HALFGATES_WRONG_SIZE where there are more whole row pairs than are left; then
- * nothing changes. This call needs the evaluator alone.
+ * Evaluates the next AND gates in file order with the whole row pairs that `size` bytes have, 32 bytes each, and writes
+ * the number of their bytes to `taken`: a part of a row pair at the end is left for the next call. Nothing of the row
+ * pairs is trusted. It allocates nothing. Code: HALFGATES_WRONG_SIZE where there are more whole row pairs than are
+ * left; then nothing changes. This call needs the evaluator alone.
  */
 int32_t halfgates_evaluator_feed(halfgates_evaluator *evaluator, const uint8_t *rows, size_t size, size_t *taken);
 

@@ -397,7 +397,7 @@ private:
     shape shape_;
 };
 
-/* A garbling in progress, which gives its row pairs in pieces:
+/* A garbling in progress, which produces its row pairs in pieces:
  *
  *     for (halfgates::bytes rows = garbler.next(4096); !rows.empty(); rows = garbler.next(4096))
  *         send(rows);
@@ -419,7 +419,7 @@ public:
         return detail::pairs(halfgates_garbler_input_labels, get(), shape_.input_widths, index);
     }
 
-    /* Garbles on: writes as many row pairs as a buffer with this much room takes, and returns the number of their
+    /* Garbles the next AND gates: writes as many row pairs as this much room takes, and returns the number of their
      * bytes, or 0 once all are written. */
     std::size_t rows_into(std::uint8_t *buffer, std::size_t size) {
         std::size_t written = 0;
@@ -428,7 +428,7 @@ public:
         return written;
     }
 
-    /* Garbles on: the row pairs of the next AND gates, at most this many, or nothing once all were returned. */
+    /* Garbles the next AND gates, at most this many, and returns their row pairs, or nothing once all were returned. */
     HALFGATES_NODISCARD bytes next(std::size_t and_gates) {
         bytes rows(32 * std::min(and_gates, left_));
         rows_into(rows.data(), rows.size());
@@ -468,8 +468,8 @@ public:
     evaluator(halfgates_evaluator *at, const shape &of) noexcept
         : handle_(at), outputs_(of.numbers.output_wires), left_(of.numbers.and_gates) {}
 
-    /* Evaluates on with these row pairs, and returns how many bytes it took: a part of a row pair at the end is
-     * left. */
+    /* Evaluates the next AND gates with these row pairs, and returns how many bytes it took: a part of a row pair at
+     * the end is left. */
     HALFGATES_NODISCARD std::size_t feed(const detail::input &rows) {
         std::size_t taken = 0;
         check(halfgates_evaluator_feed(get(), rows.data(), rows.size(), &taken));
@@ -634,7 +634,8 @@ public:
         return halfgates::garbler(at, shape_);
     }
 
-    /* Begins to garble in pieces, as `garble_from` does. A garbler that is given up has used all its AND numbers. */
+    /* Begins to garble in pieces, as `garble_from` does. A garbler that is dropped before its end has used all its AND
+     * numbers. */
     HALFGATES_NODISCARD halfgates::garbler garbler_from(const label &offset, const detail::input &zero_labels,
                                                         std::uint64_t first) const {
         halfgates_garbler *at = nullptr;

@@ -282,7 +282,8 @@ class Gates(StreamingTest):
     def test_the_full_adder(self):
         flat = array.array("I", [number for gate in FULL_ADDER_GATES for number in gate])
         table = memoryview(flat.tobytes()).cast("I", [5, 4])
-        for gates in (FULL_ADDER_GATES, iter(FULL_ADDER_GATES), map(tuple, FULL_ADDER_GATES), flat, table):
+        odd = memoryview(b"\xa5" + flat.tobytes())[1:].cast("I")
+        for gates in (FULL_ADDER_GATES, iter(FULL_ADDER_GATES), map(tuple, FULL_ADDER_GATES), flat, table, odd):
             with full_adder() as circuit, Circuit.from_gates(gates, 8, *self.WIDTHS) as made:
                 self.assertEqual((made.digest, made.text()), (circuit.digest, circuit.text()))
                 self.assertEqual((made.input_widths, made.output_widths), ((1, 1, 1), (2,)))

@@ -4,7 +4,7 @@
 from array import array
 from contextlib import contextmanager
 from enum import IntEnum
-from typing import Iterable, Iterator, NamedTuple, Tuple, Union
+from typing import Iterable, Iterator, NamedTuple, Tuple, Union, cast
 
 from ._bits import Buffer
 from ._buffers import Lent
@@ -35,27 +35,35 @@ class Gate(NamedTuple):
     set: int  #: the wire that it sets
 
 
+#: A gate, such as a `Gate`.
+Numbers = Tuple[int, int, int, int]
+
 #: Gates in order: `Gate` tuples, or a buffer of numbers of 32 bits, four of each gate.
-Gates = Union[Buffer, Iterable[Tuple[int, int, int, int]]]
+Gates = Union[Buffer, Iterable[Numbers]]
 
 
 @contextmanager
 def lent_gates(gates: Gates) -> Iterator[Lent]:
-    """The bytes of gates: those of a buffer in place."""
+    """The bytes of gates: those of a buffer in place, but for one whose numbers lie where the machine has none."""
     try:
-        view = memoryview(gates)  # type: ignore[arg-type]
+        view = memoryview(cast(Buffer, gates))
     except TypeError:
-        data: object = _packed(gates)  # type: ignore[arg-type]
+        data: object = _packed(cast(Iterable[Numbers], gates))
     else:
         with view:
             if view.format not in _UNSIGNED or view.itemsize != _NUMBER or view.nbytes % GATE:
                 raise TypeError("a buffer of gates has unsigned numbers of 32 bits, four of each gate")
-        data = gates
+            data = gates if _is_aligned(gates) else array("I", view.tobytes())
     with Lent(data) as lent:
         yield lent
 
 
-def _packed(gates: Iterable[Tuple[int, int, int, int]]) -> "array[int]":
+def _is_aligned(data: object) -> bool:
+    with Lent(data) as lent:
+        return lent.size == 0 or (lent.at or 0) % _NUMBER == 0
+
+
+def _packed(gates: Iterable[Numbers]) -> "array[int]":
     numbers = array("I")
     for operation, first, second, wire in gates:
         numbers.extend((operation, first, second, wire))

@@ -33,13 +33,13 @@ class Streaming(Handle):
 
 
 class Garbler(Streaming):
-    """A garbling in progress, by `Circuit.garbler`: it gives its row pairs in pieces, and keeps none of them.
+    """A garbling in progress, by `Circuit.garbler`: it produces its row pairs in pieces, and keeps none of them.
 
         with circuit.garbler(seed) as garbler:
             for rows in garbler.pieces():
                 connection.sendall(rows)
 
-    Whoever has it knows all labels. Closed before its end, it has given the garbling up. One call at a time uses it: a
+    Whoever has it knows all labels. Closed before its end, it has abandoned the garbling. One call at a time uses it: a
     call on another thread waits.
     """
 
@@ -58,7 +58,7 @@ class Garbler(Streaming):
         return pairs_of(self, library.halfgates_garbler_input_labels, self._shape.input_widths, index)
 
     def rows_into(self, buffer: object) -> int:
-        """Garbles on: writes as many row pairs, 32 bytes each, as a writable buffer has room for.
+        """Garbles the next AND gates: writes as many row pairs, 32 bytes each, as a writable buffer has room for.
 
         Returns how many bytes they have, or 0 once all were written. What the buffer has behind them stays. Fault 61:
         row pairs are left, and the buffer has less than 32 bytes.
@@ -69,7 +69,7 @@ class Garbler(Streaming):
         return written.value
 
     def pieces(self, and_gates: int = 4096) -> Iterator[bytearray]:
-        """Garbles on: the row pairs that are left, those of at most this many AND gates at a time."""
+        """Garbles the AND gates that are left, at most this many at a time, and yields their row pairs."""
         and_gates = integer(and_gates)
         if and_gates < 1:
             raise ValueError("a piece has at least one AND gate")
@@ -115,7 +115,7 @@ class Evaluator(Streaming):
     _Owner = owner(library.halfgates_evaluator_free)
 
     def feed(self, rows: Buffer) -> int:
-        """Evaluates on with these row pairs, 32 bytes each, and returns how many bytes were taken.
+        """Evaluates the next AND gates with these row pairs, 32 bytes each, and returns how many bytes were taken.
 
         A part of a row pair at the end is left for the next call. Nothing of the row pairs is trusted. Fault 66: there
         are more row pairs than are left, and none is taken.

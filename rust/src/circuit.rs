@@ -244,8 +244,8 @@ impl Circuit {
         Ok(Garbling::new(handle, Arc::clone(&self.shape)))
     }
 
-    /// Garbles under each of these seeds, as [`Circuit::garble`] does, in their order. Two at a time
-    /// are garbled side by side, which takes less time.
+    /// Garbles under each of these seeds, as [`Circuit::garble`] does, in their order. Two at a
+    /// time are garbled side by side, which takes less time.
     ///
     /// # Errors
     ///

@@ -205,13 +205,14 @@ impl Garbling {
         }
     }
 
-    /// Opens labels of an output value, counted from 0, that an evaluator returned: the bit of each.
-    /// Unlike [`decode`](crate::decode) it takes only labels of this garbling.
+    /// Opens labels of an output value, counted from 0, that an evaluator returned: the bit of
+    /// each. Unlike [`decode`](crate::decode) it takes only labels of this garbling.
     ///
     /// # Errors
     ///
     /// [`Fault::NO_SUCH_VALUE`]; [`Fault::WRONG_SIZE`] where there isn't one label for each wire;
-    /// [`Fault::WRONG_LABEL`] where one is neither of the two labels of its wire; [`Fault::MEMORY`].
+    /// [`Fault::WRONG_LABEL`] where one is neither of the two labels of its wire;
+    /// [`Fault::MEMORY`].
     #[doc(alias = "halfgates_open")]
     pub fn open(&self, index: usize, labels: &[Label]) -> Result<Vec<bool>, Fault> {
         let widths = &self.shape.output_widths;

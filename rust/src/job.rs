@@ -92,13 +92,15 @@ pub fn evaluate_many<J: Borrow<Job>>(jobs: &[J]) -> Result<Vec<Vec<bool>>, Fault
     Ok(outputs)
 }
 
-/// What comes of each job: the bits of all output wires, or the fault that [`Job::evaluate`] returns.
+/// What comes of each job: the bits of all output wires, or the fault that [`Job::evaluate`]
+/// returns.
 ///
 /// Unlike [`evaluate_many`] it goes on after a job that fails.
 ///
 /// # Errors
 ///
-/// Of a job: [`Fault::JOB_MEMORY`], [`Fault::UNKNOWN_OUTPUT_LABEL`]. Of the call: [`Fault::MEMORY`].
+/// Of a job: [`Fault::JOB_MEMORY`], [`Fault::UNKNOWN_OUTPUT_LABEL`]. Of the call:
+/// [`Fault::MEMORY`].
 #[doc(alias = "halfgates_evaluate_each")]
 #[allow(clippy::type_complexity)] // A list of what `Job::evaluate` returns.
 pub fn evaluate_each<J: Borrow<Job>>(jobs: &[J]) -> Result<Vec<Result<Vec<bool>, Fault>>, Fault> {

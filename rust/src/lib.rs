@@ -54,7 +54,7 @@
 //!
 //! # In pieces
 //!
-//! A [`Garbler`] gives its row pairs in pieces, which leave while the next ones are made, and an
+//! A [`Garbler`] produces its row pairs in pieces, which leave while the next ones are made, and an
 //! [`Evaluator`] takes them as they come. Neither keeps row pairs.
 //!
 //! ```
@@ -74,8 +74,9 @@
 //!
 //! # Secrets
 //!
-//! Whoever has a seed, a [`Garbling`] or a [`Garbler`] knows every label. The vectors that calls return are not
-//! wiped when they are dropped. `SECURITY.md` of the repository says what the library promises.
+//! Whoever has a seed, a [`Garbling`] or a [`Garbler`] knows every label. The vectors that calls
+//! return are not wiped when they are dropped. `SECURITY.md` of the repository says what the library
+//! promises.
 
 mod call;
 mod circuit;

@@ -11,12 +11,12 @@ use crate::{sys, Label, RowPair};
 
 const ROW_PAIR: usize = size_of::<RowPair>();
 
-/// A garbling in progress. It gives its row pairs in pieces, and keeps none of them. Whoever has it
-/// knows every label.
+/// A garbling in progress. It produces its row pairs in pieces, and keeps none of them. Whoever has
+/// it knows every label.
 ///
 /// It comes from [`Circuit::garbler`](crate::Circuit::garbler) or
-/// [`Circuit::garbler_from`](crate::Circuit::garbler_from). Dropped before its end, it has given the
-/// garbling up.
+/// [`Circuit::garbler_from`](crate::Circuit::garbler_from). Dropped before its end, it has
+/// abandoned the garbling.
 ///
 /// ```
 /// use halfgates::Circuit;
@@ -94,8 +94,8 @@ impl Garbler {
         }
     }
 
-    /// Garbles on: writes as many row pairs as there is room for, and returns how many. It returns 0
-    /// once all are written. What is behind them stays.
+    /// Garbles the next AND gates: writes as many row pairs as there is room for, and returns how
+    /// many. It returns 0 once all are written. What is behind them stays.
     ///
     /// # Errors
     ///
@@ -107,8 +107,9 @@ impl Garbler {
         Ok(written / ROW_PAIR)
     }
 
-    /// Garbles on: writes the bytes of as many row pairs as there is room for, 32 bytes each, and
-    /// returns how many bytes. It returns 0 once all are written. What is behind them stays.
+    /// Garbles the next AND gates: writes the bytes of as many row pairs as there is room for, 32
+    /// bytes each, and returns how many bytes. It returns 0 once all are written. What is behind
+    /// them stays.
     ///
     /// # Errors
     ///
@@ -119,8 +120,8 @@ impl Garbler {
         unsafe { self.write_to(bytes.as_mut_ptr(), bytes.len()) }
     }
 
-    /// Garbles on: the row pairs that are left, in pieces of this many AND gates. The last piece may
-    /// have fewer. A piece has at least one.
+    /// Garbles the AND gates that are left: an iterator of their row pairs, in pieces of this many.
+    /// The last piece may have fewer. A piece has at least one.
     ///
     /// An item is [`Fault::MEMORY`] where there is no memory for a piece. The garbler stays as it
     /// was then, and the next item is that piece.
@@ -134,7 +135,8 @@ impl Garbler {
     fn piece(&mut self, and_gates: usize) -> Result<Vec<RowPair>, Fault> {
         let count = and_gates.min(self.left);
         let mut rows: Vec<RowPair> = room(count)?;
-        // SAFETY: there is room for `count` row pairs, and as many are there as the call has written.
+        // SAFETY: there is room for `count` row pairs, and as many are there as the call has
+        // written.
         unsafe {
             let written = self.write_to(rows.as_mut_ptr().cast(), count * ROW_PAIR)?;
             rows.set_len(written / ROW_PAIR);
@@ -161,8 +163,8 @@ impl Garbler {
         self.left
     }
 
-    /// Once no row pairs are left: the zero label and the one label of each wire of an output value,
-    /// counted from 0.
+    /// Once no row pairs are left: the zero label and the one label of each wire of an output
+    /// value, counted from 0.
     ///
     /// # Errors
     ///
@@ -241,9 +243,9 @@ impl Evaluator {
         }
     }
 
-    /// Evaluates on with the whole row pairs of these bytes, 32 bytes each, and returns how many
-    /// bytes were taken: a part of a row pair at the end is left for the next call. Nothing of the
-    /// row pairs is trusted.
+    /// Evaluates the next AND gates with the whole row pairs of these bytes, 32 bytes each, and
+    /// returns how many bytes were taken: a part of a row pair at the end is left for the next
+    /// call. Nothing of the row pairs is trusted.
     ///
     /// # Errors
     ///
@@ -260,7 +262,7 @@ impl Evaluator {
         Ok(taken)
     }
 
-    /// Evaluates on with these row pairs. Nothing of them is trusted.
+    /// Evaluates the next AND gates with these row pairs. Nothing of them is trusted.
     ///
     /// # Errors
     ///

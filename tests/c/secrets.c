@@ -277,7 +277,7 @@ static void garble_from_labels(halfgates_circuit *circuit, const struct values *
     free(zero), free(active);
 }
 
-/* A garbler under a seed, which is given up after a piece. */
+/* A garbler under a seed, which is freed after a piece. */
 static void begin_under_a_seed(halfgates_circuit *circuit, const uint8_t *seed) {
     uint8_t rows[64];
     size_t written;

@@ -1,13 +1,13 @@
 /*
- * The memory of each handle: prints for each type how many bytes it takes for a gate, a wire, an AND gate more and an
- * input wire, and how many more of each there are at a time while it is made.
+ * The memory of each handle, and of an evaluation of a job: prints for each how many bytes it takes for a gate, a wire,
+ * an AND gate more and an input wire, and how many more of each there are at a time while it is made.
  *
- * The figures come from circuits that differ in one of these numbers alone. It is linked with --wrap for malloc, realloc
- * and free.
+ * The figures come from circuits that differ in one of these numbers alone. It is linked with --wrap for malloc,
+ * realloc and free.
  */
 #include "check.h"
 
-enum { LABEL = 16, PAIR = 32, COUNT = 100000, KINDS = 5, HANDLES = 5, LINE = 40 };
+enum { LABEL = 16, COUNT = 100000, KINDS = 5, HANDLES = 6, LINE = 40 };
 
 void *__real_malloc(size_t size);
 void __real_free(void *at);
@@ -85,12 +85,16 @@ static void measure_job(const halfgates_circuit *circuit, const halfgates_garbli
     CHECK_CODE(HALFGATES_OK, halfgates_garbling_deal(garbling, 0, bits, of.inputs, labels, labels_size, &written));
     begin();
     CHECK_CODE(HALFGATES_OK, halfgates_job_bind(circuit, garbled, size, labels, labels_size, &labels_size, 1, &job));
-    *cost = end();
+    cost[0] = end();
+    begin();
+    CHECK_CODE(HALFGATES_OK, halfgates_evaluate(job, NULL, 0));
+    cost[1] = (struct cost){end().peak, end().peak};
     halfgates_job_free(job);
     free(garbled), free(bits), free(labels);
 }
 
-/* The handles of a circuit of this shape: the circuit itself, a garbling, a job, a garbler and an evaluator. */
+/* The handles of a circuit of this shape: the circuit itself, a garbling, a job and its evaluation, a garbler and an
+ * evaluator. */
 static void measure(struct shape of, struct cost costs[HANDLES]) {
     const uint8_t seed[32] = {1};
     size_t length;
@@ -111,10 +115,10 @@ static void measure(struct shape of, struct cost costs[HANDLES]) {
     measure_job(circuit, garbling, of, &costs[2]);
     begin();
     CHECK_CODE(HALFGATES_OK, halfgates_garbler_begin(circuit, seed, &garbler));
-    costs[3] = end();
+    costs[4] = end();
     begin();
     CHECK_CODE(HALFGATES_OK, halfgates_evaluator_begin(circuit, 0, labels, LABEL * (size_t)of.inputs, &evaluator));
-    costs[4] = end();
+    costs[5] = end();
     halfgates_circuit_free(circuit);
     halfgates_garbling_free(garbling);
     halfgates_garbler_free(garbler);
@@ -129,7 +133,7 @@ static long each(size_t more, size_t less) {
 }
 
 int main(void) {
-    static const char *const handles[HANDLES] = {"circuit", "garbling", "job", "garbler", "evaluator"};
+    static const char *const handles[HANDLES] = {"circuit", "garbling", "job", "evaluation", "garbler", "evaluator"};
     static const char *const kinds[KINDS - 1] = {"gate", "wire", "and", "input"};
     /* A gate sets a wire, so its own bytes are those beyond a wire's; an AND gate's are those beyond an XOR gate's. */
     const struct shape shapes[KINDS] = {{COUNT, 0, 0, COUNT},

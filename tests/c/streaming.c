@@ -1,6 +1,6 @@
 /*
  * Garbling and evaluating in pieces: however a circuit is cut, the pieces are together the row pairs of its garbling,
- * and the evaluator has the output labels that all row pairs give at once. A garbler is given up at every piece, and
+ * and the evaluator has the output labels that all row pairs give at once. Garblers are freed after each piece, and
  * before the last piece neither has results.
  */
 #include "check.h"
@@ -133,7 +133,7 @@ static void check_results(const halfgates_garbler *garbler, int is_finished) {
         CHECK(bits[i] == (is_finished && i < whole.numbers.output_wires ? whole.decode_bits[i] : 0xA5));
 }
 
-/* Garbles in pieces of a number of bytes, up to a number of pieces, after which the garbler is given up. Returns how
+/* Garbles in pieces of a number of bytes, up to a number of pieces, after which the garbler is freed. Returns how
  * many pieces there were. */
 static size_t garble(const uint8_t *seed, size_t size, size_t pieces) {
     halfgates_garbler *garbler = begin_garbler(seed);
@@ -249,8 +249,8 @@ static void stream(halfgates_circuit *circuit, uint64_t first, const uint8_t *se
     end_whole();
 }
 
-/* A garbler is given up at every piece, and an evaluator too. */
-static void give_up(halfgates_circuit *circuit) {
+/* Garblers and evaluators are freed after each piece. */
+static void abandon(halfgates_circuit *circuit) {
     begin_whole(circuit, 9, NULL);
     const size_t pieces = garble(NULL, 3 * PAIR, SIZE_MAX);
     CHECK(pieces > 10);
@@ -312,7 +312,7 @@ int main(void) {
     }
     stream(make_circuit(OUTPUTS, 0), 7, NULL);
     stream(make_circuit(OUTPUTS, 50), 7, NULL);
-    give_up(make_circuit(150, 40));
+    abandon(make_circuit(150, 40));
     side_by_side(make_circuit(300, 40));
     return 0;
 }

@@ -84,7 +84,7 @@ static void work(const char *path) {
     CHECK_CODE(HALFGATES_OK, halfgates_job_bind(circuit, file, size, labels, at, sizes, 2, &job));
     CHECK_CODE(HALFGATES_OK, halfgates_evaluate(job, outputs, numbers.output_wires));
     CHECK_CODE(HALFGATES_OK, halfgates_plain(circuit, bits, numbers.input_wires, outputs, numbers.output_wires));
-    /* A garbler and an evaluator that are given up, and a garbler that comes to its end. */
+    /* A garbler and an evaluator that are freed before their end, and a garbler that comes to its end. */
     for (int i = 0; i < 2; i++) {
         CHECK_CODE(HALFGATES_OK, halfgates_garbler_begin(circuit, seed, &garblers[i]));
         CHECK_CODE(HALFGATES_OK, halfgates_garbler_next(garblers[i], file, i ? sizeof file : 3200, &size));
