@@ -41,6 +41,9 @@ LIB_DIR = folder_of_library()
 LIBRARY = Path(os.environ.get("HALFGATES_LIBRARY") or LIB_DIR / SONAME).resolve()
 ARCHIVE = LIB_DIR / "libhalfgates.a"
 
+# The levels of x86-64 for which the library has code that this processor runs.
+LEVELS = (2, 3) if ask("machine.sh", "is_v3")[0] == 0 else (2,)
+
 
 @lru_cache(maxsize=None)
 def demand_library():

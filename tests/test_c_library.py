@@ -12,8 +12,8 @@ from shutil import which
 
 from inputs import chain_of_ands, draws, respelled, worked_circuits
 from library import (
-    ARCHIVE, INCLUDE, LIB_DIR, LIBRARY, SONAME, WARNINGS, build, compiler, demand_library, environment_of_python,
-    sanitizers, tool,
+    ARCHIVE, INCLUDE, LEVELS, LIB_DIR, LIBRARY, SONAME, WARNINGS, build, compiler, demand_library,
+    environment_of_python, sanitizers, tool, write_with_level,
 )
 from program import EXAMPLES, TOP, sealed
 from test_workers import layered
@@ -78,6 +78,13 @@ class LibraryTest(unittest.TestCase):
         folder = tempfile.TemporaryDirectory()
         self.addCleanup(folder.cleanup)
         self.folder = Path(folder.name)
+
+    def library_with_level(self, level):
+        """A copy of the shared library, in a folder of its own, that uses its code for this level of x86-64."""
+        folder = self.folder / f"level{level}"
+        folder.mkdir()
+        write_with_level(level, folder / SONAME)
+        return folder / SONAME
 
     def run_built(self, source, *words, flags=()):
         """Compiles a source with the sanitizers, runs it, and returns what it prints."""
@@ -146,7 +153,7 @@ class FromC(LibraryTest):
         """Each call keeps within the kilobytes that the header names, which aren't twice what it needs."""
         said, others = stack_of_header()
         program, most = self.folder / "stack", {}
-        for library in (ARCHIVE, LIBRARY):
+        for library in (ARCHIVE, *map(self.library_with_level, LEVELS)):
             build(SOURCES / "stack.c", program, f"-Wl,-rpath,{library.parent}", library=library)
             done = subprocess.run([program, EXAMPLES / "adder64.txt"], capture_output=True, text=True, check=True)
             for name, size in map(str.split, done.stdout.splitlines()):

@@ -12,8 +12,8 @@ import unittest
 from pathlib import Path
 from shutil import which
 
-from library import ARCHIVE, LIBRARY, SONAME, build, sanitizers, tool, write_with_level
-from program import EXAMPLES, TOP, ask
+from library import ARCHIVE, LEVELS, LIBRARY, build, sanitizers, tool
+from program import EXAMPLES, TOP
 from test_c_library import SOURCES, LibraryTest, declared_names
 
 import bristol
@@ -30,7 +30,10 @@ EMULATOR = "qemu-x86_64"
 EMULATED = unittest.skipUnless(which(EMULATOR), f"there is no {EMULATOR}: the library is not run on other processors")
 OF_X86 = unittest.skipUnless(platform.machine() == "x86_64", "the library for this machine has one code")
 
-IS_V3 = ask("machine.sh", "is_v3")[0] == 0
+IS_V3 = int(3 in LEVELS)
+
+# Tests that the older code passes on any processor.
+SUITES = "test_python_labels", "test_python_library"
 
 # A proved call as objdump prints it, by its level and name, and an instruction of AVX.
 CALL = re.compile(r"^\w+ <(v[23])_(halfgates_\w+)>:\n((?: .*\n)*)", re.M)
@@ -57,14 +60,14 @@ class Choice(unittest.TestCase):
 
     def test_features(self):
         self.build(*sanitizers(".c"))
-        self.assertEqual(run(self.program), (0, f"{int(IS_V3)}\n"))
+        self.assertEqual(run(self.program), (0, f"{IS_V3}\n"))
 
     def test_threads_at_once(self):
         flags = sanitizers(".c", ("-g", "-fsanitize=thread"))
         if not flags:
             self.skipTest("the compiler has no sanitizer for threads, which shows races")
         self.build(*flags)
-        self.assertEqual(run(self.program), (0, f"{int(IS_V3)}\n"))
+        self.assertEqual(run(self.program), (0, f"{IS_V3}\n"))
 
     @EMULATED
     def test_other_processors(self):
@@ -107,18 +110,24 @@ class Codes(LibraryTest):
             (self.folder / name).write_bytes(data)
 
     def build_with_level(self, level):
-        """A program whose library uses its code for this level, and the environment that it runs in."""
-        folder = self.folder / str(level)
-        folder.mkdir()
-        write_with_level(level, folder / SONAME)
-        build(SOURCES / "worked.c", folder / "worked", library=folder / SONAME)
-        return folder / "worked", {**os.environ, "LD_LIBRARY_PATH": str(folder)}
+        """A program whose library uses its code for this level."""
+        library = self.library_with_level(level)
+        program = library.parent / "worked"
+        build(SOURCES / "worked.c", program, f"-Wl,-rpath,{library.parent}", library=library)
+        return program
 
     def test_both_make_the_same_files(self):
         self.write_aes()
-        for level in (2, 3) if IS_V3 else (2,):
-            program, environment = self.build_with_level(level)
-            self.assertEqual(run(program, self.folder, env=environment), (0, ""), level)
+        for level in LEVELS:
+            self.assertEqual(run(self.build_with_level(level), self.folder), (0, ""), level)
+
+    def test_the_older_one(self):
+        environment = {**os.environ, "HALFGATES_LIBRARY": str(self.library_with_level(2))}
+        for name in SUITES:
+            words = [sys.executable, TOP / "tests" / f"{name}.py"]
+            done = subprocess.run(words, env=environment, capture_output=True, text=True, check=False)
+            self.assertEqual(done.returncode, 0, done.stderr[-4000:])
+            self.assertRegex(done.stderr, r"\nRan \d+ tests? in ")
 
     @EMULATED
     def test_other_processors(self):
@@ -133,8 +142,7 @@ class Codes(LibraryTest):
     def test_only_one_runs_on_older_processors(self):
         self.write_aes()
         for level, status in ((2, 0), (3, -signal.SIGILL)):
-            program, environment = self.build_with_level(level)
-            ending = run(EMULATOR, "-cpu", "Nehalem", program, self.folder, env=environment)
+            ending = run(EMULATOR, "-cpu", "Nehalem", self.build_with_level(level), self.folder)
             self.assertEqual(ending, (status, ""), level)
 
 

@@ -17,9 +17,9 @@ from xml.etree import ElementTree
 
 from inputs import text_of
 from library import (
-    INCLUDE, LIB_DIR, SONAME, WARNINGS, build, compiler, demand_library, sanitizers, write_with_level,
+    INCLUDE, LEVELS, LIB_DIR, SONAME, WARNINGS, build, compiler, demand_library, sanitizers, write_with_level,
 )
-from program import PROGRAM, SEED, TOP, ProgramTest, ask
+from program import PROGRAM, SEED, TOP, ProgramTest
 
 SOURCES = TOP / "tests/c"
 HAS_VALGRIND = shutil.which("valgrind") and Path("/usr/include/valgrind/memcheck.h").is_file()
@@ -37,10 +37,6 @@ KIT = "rattle_arg", "core::str::utf8::from_utf8", "core::slice::words::skip_far"
 PUBLIC = "gc_command::lines::", "gc_command::value_form::", "gc_command::eval::", "gc_command::run::", "gc_file::body::"
 
 KEY, BLOCK = "x000102030405060708090a0b0c0d0e0f", "0110" * 32
-
-
-# The levels of x86-64 that this processor runs.
-LEVELS = (2, 3) if ask("machine.sh", "is_v3")[0] == 0 else (2,)
 
 # The program under test, and the release's for x86-64-v3.
 NEWER = LIB_DIR.parent / "v3/halfgates"
