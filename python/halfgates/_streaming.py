@@ -40,7 +40,8 @@ class Garbler(Streaming):
                 connection.sendall(rows)
 
     Whoever has it knows all labels. Closed before its end, it has abandoned the garbling. One call at a time uses it: a
-    call on another thread waits.
+    call on another thread waits. A call that is interrupted, as by Ctrl-C, may lose a piece: begin anew then, under a
+    new seed.
     """
 
     _Owner = owner(library.halfgates_garbler_free)

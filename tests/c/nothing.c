@@ -88,6 +88,22 @@ static void check_circuit(const char *text, size_t values) {
     halfgates_job_free(job);
 }
 
+/* An output value without wires has no labels to open, nor to write. */
+static void check_no_labels(void) {
+    halfgates_circuit *circuit = read_text("1 2\n1 1\n2 0 1\n\n1 1 0 1 INV\n");
+    halfgates_garbling *garbling = NULL;
+    halfgates_garbler *garbler = NULL;
+    CHECK_CODE(HALFGATES_OK, halfgates_garble(circuit, SEED, &garbling));
+    CHECK_CODE(HALFGATES_OK, halfgates_garbler_begin(circuit, SEED, &garbler));
+    CHECK_CODE(HALFGATES_OK, halfgates_output_labels(garbling, 0, NULL, NULL, 0));
+    CHECK_CODE(HALFGATES_OK, halfgates_garbler_output_labels(garbler, 0, NULL, NULL, 0));
+    CHECK_CODE(HALFGATES_OK, halfgates_open(garbling, 0, NULL, 0, NULL, 0));
+    CHECK_CODE(HALFGATES_WRONG_SIZE, halfgates_open(garbling, 1, NULL, 0, NULL, 0));
+    halfgates_circuit_free(circuit);
+    halfgates_garbling_free(garbling);
+    halfgates_garbler_free(garbler);
+}
+
 /* Nothing to read is a text or a file that ends too early. */
 static void check_files(void) {
     halfgates_circuit *circuit = NULL;
@@ -118,6 +134,7 @@ int main(void) {
     check_circuit("0 0\n0\n0\n", 0);
     check_circuit("0 0\n1 0\n0\n", 1);
     check_circuit("0 0\n2 0 0\n0\n", 2);
+    check_no_labels();
     check_files();
     return 0;
 }
