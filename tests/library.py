@@ -41,6 +41,9 @@ LIB_DIR = folder_of_library()
 LIBRARY = Path(os.environ.get("HALFGATES_LIBRARY") or LIB_DIR / SONAME).resolve()
 ARCHIVE = LIB_DIR / "libhalfgates.a"
 
+# An instruction that no x86-64 processor has, ud2.
+INVALID_INSTRUCTION = bytes.fromhex("0f0b")
+
 # The levels of x86-64 for which the library has code that this processor runs.
 LEVELS = (2, 3) if ask("machine.sh", "is_v3")[0] == 0 else (2,)
 
@@ -57,19 +60,27 @@ def demand_library():
             raise Missing("out/lib/ is older than the sources: ./build halfgates_c makes it anew")
 
 
-def write_with_level(level, place):
-    """Writes a copy of the shared library under test that uses its code for this level of x86-64, 2 or 3. For other
-    processors it has one code."""
+def places_in_library():
+    """Where the file of the shared library under test has its functions and objects, by name."""
+    words = [tool("readelf"), "--wide", "--sections", "--symbols", LIBRARY]
+    said = subprocess.run(words, capture_output=True, text=True, check=True).stdout
+    sections = re.findall(r"\[ *(\d+)\] \.\S+ +\w+ +(\w+) (\w+) ", said)
+    shifts = {section: int(offset, 16) - int(address, 16) for section, address, offset in sections}
+    symbols = re.findall(r": (\w+) +\d+ (?:FUNC|OBJECT) +\w+ +\w+ +(\d+) (\S+)$", said, re.M)
+    return {name: int(address, 16) + shifts[section] for address, section, name in symbols}
+
+
+def write_with_code(level, file, is_forced=True):
+    """Writes a copy of the shared library under test in which only its code for this level of x86-64 works, 2 or 3. It
+    uses that code, or else the one that it chooses by itself. For other processors it has one code."""
     data = bytearray(LIBRARY.read_bytes())
     if platform.machine() == "x86_64":
-        words = [tool("readelf"), "--wide", "--sections", "--symbols", LIBRARY]
-        said = subprocess.run(words, capture_output=True, text=True, check=True).stdout
-        [(value, section)] = re.findall(r": (\w+) +4 OBJECT +LOCAL +\w+ +(\d+) level$", said, re.M)
-        [(address, offset)] = re.findall(rf"\[ *{section}\] \.data +PROGBITS +(\w+) (\w+) ", said)
-        place_of_level = int(value, 16) - int(address, 16) + int(offset, 16)
-        assert data[place_of_level] == 1
-        data[place_of_level] = level
-    place.write_bytes(data)
+        places = places_in_library()
+        for place in (places[name] for name in places if name.startswith(f"v{5 - level}_halfgates_")):
+            data[place : place + 2] = INVALID_INSTRUCTION
+        assert data[places["level"]] == 1
+        data[places["level"]] = level if is_forced else 1
+    file.write_bytes(data)
 
 
 def import_package():

@@ -13,7 +13,7 @@ from shutil import which
 from inputs import chain_of_ands, draws, respelled, worked_circuits
 from library import (
     ARCHIVE, INCLUDE, LEVELS, LIB_DIR, LIBRARY, SONAME, WARNINGS, build, compiler, demand_library,
-    environment_of_python, sanitizers, tool, write_with_level,
+    environment_of_python, sanitizers, tool, write_with_code,
 )
 from program import EXAMPLES, TOP, sealed
 from test_workers import layered
@@ -79,11 +79,11 @@ class LibraryTest(unittest.TestCase):
         self.addCleanup(folder.cleanup)
         self.folder = Path(folder.name)
 
-    def library_with_level(self, level):
-        """A copy of the shared library, in a folder of its own, that uses its code for this level of x86-64."""
+    def library_with_code(self, level, **how):
+        """A copy of the shared library, in a folder of its own, of which only the code for this level works."""
         folder = self.folder / f"level{level}"
         folder.mkdir()
-        write_with_level(level, folder / SONAME)
+        write_with_code(level, folder / SONAME, **how)
         return folder / SONAME
 
     def run_built(self, source, *words, flags=()):
@@ -153,7 +153,7 @@ class FromC(LibraryTest):
         """Each call keeps within the kilobytes that the header names, which aren't twice what it needs."""
         said, others = stack_of_header()
         program, most = self.folder / "stack", {}
-        for library in (ARCHIVE, *map(self.library_with_level, LEVELS)):
+        for library in (ARCHIVE, *map(self.library_with_code, LEVELS)):
             build(SOURCES / "stack.c", program, f"-Wl,-rpath,{library.parent}", library=library)
             done = subprocess.run([program, EXAMPLES / "adder64.txt"], capture_output=True, text=True, check=True)
             for name, size in map(str.split, done.stdout.splitlines()):

@@ -109,9 +109,9 @@ class Codes(LibraryTest):
         }.items():
             (self.folder / name).write_bytes(data)
 
-    def build_with_level(self, level):
-        """A program whose library uses its code for this level."""
-        library = self.library_with_level(level)
+    def build_with_code(self, level, **how):
+        """A program of whose library only the code for this level works."""
+        library = self.library_with_code(level, **how)
         program = library.parent / "worked"
         build(SOURCES / "worked.c", program, f"-Wl,-rpath,{library.parent}", library=library)
         return program
@@ -119,10 +119,17 @@ class Codes(LibraryTest):
     def test_both_make_the_same_files(self):
         self.write_aes()
         for level in LEVELS:
-            self.assertEqual(run(self.build_with_level(level), self.folder), (0, ""), level)
+            self.assertEqual(run(self.build_with_code(level), self.folder), (0, ""), level)
+
+    def test_one_is_used_here(self):
+        self.write_aes()
+        for level in (2, 3):
+            status = 0 if level == LEVELS[-1] else -signal.SIGILL
+            program = self.build_with_code(level, is_forced=False)
+            self.assertEqual(run(program, self.folder), (status, ""), level)
 
     def test_the_older_one(self):
-        environment = {**os.environ, "HALFGATES_LIBRARY": str(self.library_with_level(2))}
+        environment = {**os.environ, "HALFGATES_LIBRARY": str(self.library_with_code(2))}
         for name in SUITES:
             words = [sys.executable, TOP / "tests" / f"{name}.py"]
             done = subprocess.run(words, env=environment, capture_output=True, text=True, check=False)
@@ -142,7 +149,7 @@ class Codes(LibraryTest):
     def test_only_one_runs_on_older_processors(self):
         self.write_aes()
         for level, status in ((2, 0), (3, -signal.SIGILL)):
-            ending = run(EMULATOR, "-cpu", "Nehalem", self.build_with_level(level), self.folder)
+            ending = run(EMULATOR, "-cpu", "Nehalem", self.build_with_code(level), self.folder)
             self.assertEqual(ending, (status, ""), level)
 
 

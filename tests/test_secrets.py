@@ -17,7 +17,7 @@ from xml.etree import ElementTree
 
 from inputs import text_of
 from library import (
-    INCLUDE, LEVELS, LIB_DIR, SONAME, WARNINGS, build, compiler, demand_library, sanitizers, write_with_level,
+    INCLUDE, LEVELS, LIB_DIR, SONAME, WARNINGS, build, compiler, demand_library, sanitizers, write_with_code,
 )
 from program import PROGRAM, SEED, TOP, ProgramTest
 
@@ -61,7 +61,7 @@ class OfTheLibrary(ProgramTest):
             # The loader takes the library from a folder that has no other.
             loaded = self.folder / str(level)
             loaded.mkdir()
-            write_with_level(level, loaded / SONAME)
+            write_with_code(level, loaded / SONAME)
             program = compile_c("secrets.c", loaded / "secrets", loaded / SONAME)
             for circuit in ("operations", "aes128"):
                 with self.subTest(level=level, circuit=circuit):
