@@ -54,13 +54,14 @@ pub fn one_after_another(alloc: Global, jobs: &[Job]) -> Result<()> {
 
 /// Evaluates a job four times, side by side.
 pub fn side_by_side(alloc: Global, job: &Job) -> Result<()> {
+    let job = job.borrowed();
     let four = evaluate_four(
         alloc,
         Four {
-            a: job,
-            b: job,
-            c: job,
-            d: job,
+            a: &job,
+            b: &job,
+            c: &job,
+            d: &job,
         },
     );
     if four.d.is_none() {

@@ -5,8 +5,7 @@ ghost use Rattle.std.specs.Result.{result_map_both};
 ghost use Rattle.gc_netlist.specs.Circuit.{output_wires};
 
 use crate::bind::{bound_labels, has_counts};
-use crate::decode::decoding;
-use crate::detached::DetachedJob;
+use crate::detached::{DetachedJob, JobRef};
 use crate::facts::Facts;
 use crate::fault::{BindFault, EvalFault};
 use gc_circuit::Circuit;
@@ -125,16 +124,14 @@ impl<'c, A: Allocator, C: Allocator> Job<'c, A, C> {
         self.detached.inputs()
     }
 
-    /// The job without its circuit.
-    pub fn detached(&self) -> &DetachedJob<A>
-        ensures same { job_of self.now.circuit result.now.garbled result.now.inputs ≡ self.now }
-        ensures whole { IsWhole self.now }
+    /// The job, borrowed.
+    pub fn borrowed(&self) -> JobRef<'_, A, C>
+        ensures { result ≡ self.now }
     {
-        self.law_whole();
-        &self.detached
+        self.detached.with_circuit(self.circuit)
     }
 
-    /// The same, for a caller that gives the job up.
+    /// The job without its circuit.
     pub fn detach(self) -> DetachedJob<A>
         ensures same { job_of self.entry.circuit result.garbled result.inputs ≡ self.entry }
         ensures whole { IsWhole self.entry }
@@ -165,7 +162,6 @@ impl<'c, A: Allocator, C: Allocator> Job<'c, A, C> {
         ensures { IsDecodingOf self.now labels.now
             (result_map_both (λ bits. bits.items) (λ fault. fault) result) }
     {
-        self.law_whole();
-        decoding(alloc, self.circuit, self.detached.garbled(), labels)
+        self.borrowed().decode(alloc, labels)
     }
 }

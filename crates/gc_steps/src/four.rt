@@ -25,7 +25,7 @@ struct FourLabels {
 
 /// A gate with the labels that it reads.
 #[inline]
-fn read_gate(ready: Prepared) -> ReadGate
+pub(crate) fn read_gate(ready: Prepared) -> ReadGate
     ensures { result
         ≡ record { gate = ready.gate; first = ready.labels.0; second = ready.labels.1 } }
 {

@@ -8,6 +8,7 @@ ghost use Rattle.gc_job.specs.ActiveLabels.{active, set_of};
 ghost use Rattle.gc_steps.specs.Views.{IsMadeNow, IsIdle, Answers, AnswersTwo, IsReady, IsAlone, AnswersTwoAlone};
 
 use crate::answer::Answer;
+use crate::four::read_gate;
 use crate::jobs::Jobs;
 use crate::round::{Prepared, Round};
 use gc_gates::{Frame, Place};
@@ -48,13 +49,9 @@ impl<'w, 'c, J: Jobs, R: Frame<J>, B: Allocator, A: Allocator, C: Allocator> Rou
         if let Some(answer) = self.take(place, first.gate, first.free) {
             return (answer, None);
         }
-        let (label, other) = self.job.active_two(
-            self.wiring,
-            first.gate,
-            first.labels,
-            second.gate,
-            second.labels,
-        );
+        let (label, other) = self
+            .job
+            .active_two(self.wiring, read_gate(first), read_gate(second));
         self.put(place, first.gate, label);
         (Answer::Made(label), Some(other))
     }

@@ -1,20 +1,19 @@
-use Rattle.std.proofs.Common.{map, arith}
-use Rattle.gc_kept.proofs.JobsLemmas.{job_at, one_more}
+use Rattle.std.proofs.Common.{refl, arith}
+use Rattle.std.proofs.lemmas.Option.{slice_get_read}
+use Rattle.gc_kept.proofs.JobsLemmas.{one_more}
 use Rattle.gc_kept.proofs.jobs.end_of_group.Goals as goal
 
 pub loop-end-preserved : goal.loop-end-preserved
 loop-end-preserved c =
     let l = c.loop-end in
     let jobs = c.args.jobs.now in
-    let here = c.index-jobs-first.result in
-    let there = c.index-jobs-end.result in
     record {
       some = omega (arith, l.invariant.some);
       within = omega (arith, c.loop-end-test.true);
-      one = one_more (map (λ j. j.now) jobs) c.args.first l.end here.now there.now
-          (job_at jobs (λ j. j.now) c.args.first here (omega (arith, c.requires))
+      one = one_more jobs c.args.first l.end _ _
+          (slice_get_read jobs _ c.args.first _ refl (omega (arith, c.requires))
           c.index-jobs-first.is)
-          (job_at jobs (λ j. j.now) l.end there
+          (slice_get_read jobs _ l.end _ refl
           (omega (arith, c.loop-end-test.true, c.min-last.ensures)) c.index-jobs-end.is)
           (c.is_beside.ensures.0 c.if-is_beside.true) l.invariant.one;
     }
