@@ -1,6 +1,6 @@
 -- Jobs of a list, one after another.
 use Rattle.gc_job.proofs.Names.{◌≡◌, ℕ, zero, suc, ◌+◌, inl, Bool, List, [], ◌∷◌, ◌++◌, length, map, take, slice_get, slice_get_within, get_or, get_or_from_slice_get, Option, Some, None, Ok, Err, refl, ◌∙◌, arith, output_wires, JobParts, IsEvaluated, EvalFault, BadWorkers, UnknownOutputLabel, Memory}
-use Rattle.std.proofs.Common.{◌⊎◌, ⊎_elim, IfSome}
+use Rattle.std.proofs.Common.{◌⊎◌, ⊎_elim, IfSome, Vec}
 use Rattle.std.proofs.lemmas.List.{length-append, map-append, take_more, take_all}
 use Rattle.std.proofs.lemmas.Option.{slice_get-get_or}
 use Rattle.gc_job.specs.Jobs.{AreBitsOf, AreEvaluated, EvaluateTo}
@@ -76,7 +76,11 @@ pub if_some : {X : Type 0} (P Q : X → Type 0) (o : Option X) → ((x : X) → 
 if_some P Q None follows is = tt
 if_some P Q (Some x) follows is = follows x is
 
--- The bits of the job at a place.
-pub bits_at : (jobs : List JobParts) (k : ℕ) (job : JobParts) (bits : List Bool)
-    → slice_get jobs k ≡ Some job → IsEvaluated job (Ok bits) → AreBitsOf jobs k bits
-bits_at jobs k job bits at is other other_at = let same : job ≡ other = cc in rw (← same) is
+-- The bits that a job is evaluated to, if any, are those of the job at its place.
+pub bits_at : {B : Type 0} (jobs : List JobParts) (k : ℕ) (job : JobParts)
+    (found : Option (Vec Bool B))
+    → slice_get jobs k ≡ Some job → IfSome found (λ bits. IsEvaluated job (Ok bits.items))
+    → IfSome found (λ bits. AreBitsOf jobs k bits.items)
+bits_at jobs k job None at is = tt
+bits_at jobs k job (Some bits) at is =
+    λ other other_at. let same : job ≡ other = cc in rw (← same) is

@@ -1,5 +1,5 @@
 -- The labels of the output wires.
-use Rattle.gc_job.proofs.Names.{◌≡◌, ℕ, ◌+◌, ◌-◌, ◌<◌, List, length, map, drop, slice_get, Some, Bool, Result, Ok, Err, refl, sym, ap, ◌∙◌, arith, range_with_len, length-map-range_with_len, get_or-map-range_with_len, length-zip, slice_get_within, get_or_from_slice_get, Netlist, output_wires, IsLawful, solution, on_outputs, solution_solves, table_end, hash, active_rule, active_local, EvalFault, Memory, GarbledParts, LabelFileParts, JobParts, IsWhole, job_of, subst, IsBound, labels_of, AreActive, IsDecodingOf, IsEvaluated}
+use Rattle.gc_job.proofs.Names.{◌≡◌, ℕ, ◌+◌, ◌-◌, ◌<◌, List, length, slice_get, Some, Bool, Result, Ok, Err, refl, sym, ap, ◌∙◌, arith, length-map-range_with_len, get_or-map-range_with_len, length-zip, slice_get_within, get_or_from_slice_get, Netlist, output_wires, IsLawful, solution, on_outputs, solution_solves, hash, active_rule, active_local, EvalFault, Memory, GarbledParts, LabelFileParts, JobParts, IsWhole, IsBound, labels_of, IsDecodingOf, IsEvaluated}
 use Rattle.std.proofs.Common.{IfOk}
 use Rattle.std.specs.Result.{result_map_both}
 use Rattle.std.proofs.lemmas.List.{length-map}

@@ -59,6 +59,19 @@ impl<A: Allocator> DetachedJob<A> {
     }
 }
 
+/// What has a job.
+pub trait AsJob<A: Allocator, C: Allocator> {
+    ghost use Rattle.std.specs.Prelude.{◌≡◌};
+    ghost use Rattle.gc_job.specs.Job.{JobParts};
+
+    /// The job.
+    ghost job: { Self → JobParts };
+
+    /// The job, borrowed.
+    fn as_job(&self) -> JobRef<'_, A, C>
+        ensures { result ≡ job self.now };
+}
+
 /// A borrowed job.
 #[derive(Drop)]
 pub struct JobRef<'j, A: Allocator = Global, C: Allocator = Global> {

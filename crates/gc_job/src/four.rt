@@ -14,15 +14,15 @@ use std::alloc::Allocator;
 /// The caller ensures that the circuits are equal.
 pub fn evaluate_four<A: Allocator, B: Allocator + Copy, C: Allocator>(
     alloc: B,
-    jobs: Four<&JobRef<'_, A, C>>,
+    jobs: Four<JobRef<'_, A, C>>,
 ) -> Four<Option<Vec<bool, B>>>
-    requires b { jobs.b.now.circuit ≡ jobs.a.now.circuit }
-    requires c { jobs.c.now.circuit ≡ jobs.a.now.circuit }
-    requires d { jobs.d.now.circuit ≡ jobs.a.now.circuit }
-    ensures a { IfSome result.a (λ bits. IsEvaluated jobs.entry.a.now (Ok bits.items)) }
-    ensures b { IfSome result.b (λ bits. IsEvaluated jobs.entry.b.now (Ok bits.items)) }
-    ensures c { IfSome result.c (λ bits. IsEvaluated jobs.entry.c.now (Ok bits.items)) }
-    ensures d { IfSome result.d (λ bits. IsEvaluated jobs.entry.d.now (Ok bits.items)) }
+    requires b { jobs.b.circuit ≡ jobs.a.circuit }
+    requires c { jobs.c.circuit ≡ jobs.a.circuit }
+    requires d { jobs.d.circuit ≡ jobs.a.circuit }
+    ensures a { IfSome result.a (λ bits. IsEvaluated jobs.entry.a (Ok bits.items)) }
+    ensures b { IfSome result.b (λ bits. IsEvaluated jobs.entry.b (Ok bits.items)) }
+    ensures c { IfSome result.c (λ bits. IsEvaluated jobs.entry.c (Ok bits.items)) }
+    ensures d { IfSome result.d (λ bits. IsEvaluated jobs.entry.d (Ok bits.items)) }
 {
     let Four { a, b, c, d } = jobs;
     let given = Four {
@@ -65,9 +65,6 @@ impl<'j, A: Allocator, C: Allocator> JobRef<'j, A, C> {
         ensures { IfSome result (λ bits. IsEvaluated self.now (Ok bits.items)) }
     {
         let labels = output_labels(self.circuit(), active);
-        match self.decode(alloc, labels) {
-            Ok(bits) => Some(bits),
-            Err(_) => None,
-        }
+        self.decode(alloc, labels).ok()
     }
 }

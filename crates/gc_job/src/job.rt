@@ -5,7 +5,7 @@ ghost use Rattle.std.specs.Result.{result_map_both};
 ghost use Rattle.gc_netlist.specs.Circuit.{output_wires};
 
 use crate::bind::{bound_labels, has_counts};
-use crate::detached::{DetachedJob, JobRef};
+use crate::detached::{AsJob, DetachedJob, JobRef};
 use crate::facts::Facts;
 use crate::fault::{BindFault, EvalFault};
 use gc_circuit::Circuit;
@@ -124,13 +124,6 @@ impl<'c, A: Allocator, C: Allocator> Job<'c, A, C> {
         self.detached.inputs()
     }
 
-    /// The job, borrowed.
-    pub fn borrowed(&self) -> JobRef<'_, A, C>
-        ensures { result ≡ self.now }
-    {
-        self.detached.with_circuit(self.circuit)
-    }
-
     /// The job without its circuit.
     pub fn detach(self) -> DetachedJob<A>
         ensures same { job_of self.entry.circuit result.garbled result.inputs ≡ self.entry }
@@ -162,6 +155,14 @@ impl<'c, A: Allocator, C: Allocator> Job<'c, A, C> {
         ensures { IsDecodingOf self.now labels.now
             (result_map_both (λ bits. bits.items) (λ fault. fault) result) }
     {
-        self.borrowed().decode(alloc, labels)
+        self.as_job().decode(alloc, labels)
+    }
+}
+
+impl<'c, A: Allocator, C: Allocator> AsJob<A, C> for Job<'c, A, C> {
+    ghost job = { λ job. job };
+
+    fn as_job(&self) -> JobRef<'_, A, C> {
+        self.detached.with_circuit(self.circuit)
     }
 }

@@ -20,12 +20,12 @@ mod readers;
 mod wiring;
 
 pub use decode::decoded;
-pub use detached::{DetachedJob, JobRef};
+pub use detached::{AsJob, DetachedJob, JobRef};
 pub use facts::Facts;
 pub use fault::{BindFault, EvalFault};
 pub use four::evaluate_four;
 pub use job::Job;
-pub use jobs::{SIDE_BY_SIDE, borrow_all, evaluate_group, evaluate_rest, none_known};
+pub use jobs::{MAX_GROUP, evaluate_group, evaluate_rest, none_known};
 pub use laws::law_honest_files;
 pub use one_thread::{evaluate, output_labels};
 pub use readers::ReadGate;

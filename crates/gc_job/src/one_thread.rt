@@ -8,7 +8,7 @@ ghost use Rattle.gc_half.specs.Joined.{AreOutputLabels};
 ghost use Rattle.gc_job.specs.Evaluate.{IsEvaluated};
 ghost use Rattle.gc_job.specs.Honest.{IsHonest};
 
-use crate::detached::JobRef;
+use crate::detached::{AsJob, JobRef};
 use crate::fault::EvalFault;
 use crate::job::Job;
 use gc_circuit::Memory;
@@ -26,7 +26,7 @@ pub fn output_labels<A: Allocator, B: Allocator + Copy, C: Allocator>(
     ensures { IfOk result (λ labels.
         AreOutputLabels 0 job.now.circuit job.now.rows job.now.inputs labels.items) }
 {
-    job.borrowed().output_labels(alloc)
+    job.as_job().output_labels(alloc)
 }
 
 /// Evaluates a job on one thread: the output bits, in wire order, that its [`output_labels`] decode to. Nothing of the
@@ -43,7 +43,7 @@ pub fn evaluate<A: Allocator, B: Allocator + Copy, C: Allocator>(
         MatchResult result (λ outputs. AreOutputs job.now.circuit bits outputs.items)
         (λ fault. fault ≡ EvalFault.Memory) }
 {
-    job.borrowed().evaluate(alloc)
+    job.as_job().evaluate(alloc)
 }
 
 impl<'j, A: Allocator, C: Allocator> JobRef<'j, A, C> {

@@ -62,26 +62,26 @@ impl<'c, A: Allocator, C: Allocator> Job<'c, A, C> {
             first,
             second,
         };
-        self.active_at(self.and_number(gate), read)
+        self.active_at(self.and_number(gate), &read)
     }
 
     /// The same, with the tables of the job's circuit. The caller ensures that there is such a gate, and that the
     /// wiring is the circuit's.
     #[inline]
-    pub fn active_by<B: Allocator>(&self, wiring: &Wiring<'c, B, C>, read: ReadGate) -> Label
-        requires gate { read.gate < gates_of self.now }
+    pub fn active_by<B: Allocator>(&self, wiring: &Wiring<'c, B, C>, read: &ReadGate) -> Label
+        requires gate { read.now.gate < gates_of self.now }
         requires wiring { wiring.now ≡ self.now.circuit }
-        ensures { result ≡ active_from self.now read.gate read.first read.second }
+        ensures { result ≡ active_from self.now read.now.gate read.now.first read.now.second }
     {
         self.active_at(wiring.and_number(read.gate), read)
     }
 
     /// The same, where this is the gate's AND number.
     #[inline]
-    fn active_at(&self, number: u32, read: ReadGate) -> Label
-        requires gate { read.gate < gates_of self.now }
-        requires number { number ≡ and_number self.now.circuit read.gate }
-        ensures { result ≡ active_from self.now read.gate read.first read.second }
+    fn active_at(&self, number: u32, read: &ReadGate) -> Label
+        requires gate { read.now.gate < gates_of self.now }
+        requires number { number ≡ and_number self.now.circuit read.now.gate }
+        ensures { result ≡ active_from self.now read.now.gate read.now.first read.now.second }
     {
         let operation = self.circuit().gate(read.gate).operation;
         evaluate_gate(number, self.rows(), operation, read.first, read.second)
@@ -93,13 +93,13 @@ impl<'c, A: Allocator, C: Allocator> Job<'c, A, C> {
     pub fn active_two<B: Allocator>(
         &self,
         wiring: &Wiring<'c, B, C>,
-        one: ReadGate,
-        other: ReadGate,
+        one: &ReadGate,
+        other: &ReadGate,
     ) -> (Label, Label)
-        requires gates { (one.gate < gates_of self.now) × (other.gate < gates_of self.now) }
+        requires gates { (one.now.gate < gates_of self.now) × (other.now.gate < gates_of self.now) }
         requires wiring { wiring.now ≡ self.now.circuit }
-        ensures one { result.0 ≡ active_from self.now one.gate one.first one.second }
-        ensures other { result.1 ≡ active_from self.now other.gate other.first other.second }
+        ensures one { result.0 ≡ active_from self.now one.now.gate one.now.first one.now.second }
+        ensures other { result.1 ≡ active_from self.now other.now.gate other.now.first other.now.second }
     {
         match (self.and_step(wiring, one), self.and_step(wiring, other)) {
             (Some(step), Some(other_step)) => eval_two_ands(step, other_step),
@@ -122,29 +122,29 @@ impl<'c, A: Allocator, C: Allocator> Job<'c, A, C> {
     {
         let [a, b, c, d] = gates;
         let steps = (
-            self.and_step(wiring, a),
-            self.and_step(wiring, b),
-            self.and_step(wiring, c),
-            self.and_step(wiring, d),
+            self.and_step(wiring, &a),
+            self.and_step(wiring, &b),
+            self.and_step(wiring, &c),
+            self.and_step(wiring, &d),
         );
         match steps {
             (Some(a), Some(b), Some(c), Some(d)) => eval_four_ands([a, b, c, d]),
             _ => [
-                self.active_by(wiring, a),
-                self.active_by(wiring, b),
-                self.active_by(wiring, c),
-                self.active_by(wiring, d),
+                self.active_by(wiring, &a),
+                self.active_by(wiring, &b),
+                self.active_by(wiring, &c),
+                self.active_by(wiring, &d),
             ],
         }
     }
 
     /// What the evaluation of a gate takes, where it is an AND gate.
     #[inline]
-    fn and_step<B: Allocator>(&self, wiring: &Wiring<'c, B, C>, read: ReadGate) -> Option<AndStep>
-        requires gate { read.gate < gates_of self.now }
+    fn and_step<B: Allocator>(&self, wiring: &Wiring<'c, B, C>, read: &ReadGate) -> Option<AndStep>
+        requires gate { read.now.gate < gates_of self.now }
         requires wiring { wiring.now ≡ self.now.circuit }
         ensures { IfSome result (λ step. active_label_of_step step
-            ≡ active_from self.now read.gate read.first read.second) }
+            ≡ active_from self.now read.now.gate read.now.first read.now.second) }
     {
         let k = wiring.and_number(read.gate);
         match self.circuit().gate(read.gate).operation {

@@ -13,7 +13,6 @@ ghost use Rattle.gc_job.specs.ActiveLabels.{active, set_of};
 ghost use Rattle.gc_steps.specs.Views.{IsMadeNow, IsIdle, Answers, IsReady, IsAlone, AnswersAlone, after_taken};
 
 use crate::answer::Answer;
-use crate::four::read_gate;
 use crate::jobs::Jobs;
 use crate::round::{Prepared, Round};
 use gc_gates::{Frame, Place, claim, store_done, store_high, store_low};
@@ -112,7 +111,7 @@ impl<'w, 'c, J: Jobs, R: Frame<J>, B: Allocator, A: Allocator, C: Allocator> Rou
         if let Some(answer) = self.take(place, ready.gate, ready.free) {
             return answer;
         }
-        let label = self.job.active_by(self.wiring, read_gate(ready));
+        let label = self.job.active_by(self.wiring, &ready.read_gate());
         self.put(place, ready.gate, label);
         Answer::Made(label)
     }

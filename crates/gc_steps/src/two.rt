@@ -8,7 +8,6 @@ ghost use Rattle.gc_job.specs.ActiveLabels.{active, set_of};
 ghost use Rattle.gc_steps.specs.Views.{IsMadeNow, IsIdle, Answers, AnswersTwo, IsReady, IsAlone, AnswersTwoAlone};
 
 use crate::answer::Answer;
-use crate::four::read_gate;
 use crate::jobs::Jobs;
 use crate::round::{Prepared, Round};
 use gc_gates::{Frame, Place};
@@ -51,7 +50,7 @@ impl<'w, 'c, J: Jobs, R: Frame<J>, B: Allocator, A: Allocator, C: Allocator> Rou
         }
         let (label, other) = self
             .job
-            .active_two(self.wiring, read_gate(first), read_gate(second));
+            .active_two(self.wiring, &first.read_gate(), &second.read_gate());
         self.put(place, first.gate, label);
         (Answer::Made(label), Some(other))
     }

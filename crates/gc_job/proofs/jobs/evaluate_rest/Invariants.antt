@@ -5,5 +5,5 @@ use Rattle.gc_job.proofs.jobs.evaluate_rest.Given as goal
 
 abbrev pub invariant-loop-i : goal.invariant-loop-i
 invariant-loop-i g l =
-    AreEvaluatedBefore l.jobs (map (λ bits. bits.items) l.all.items) l.i
-    × AreKnown l.jobs l.known.items
+    AreEvaluatedBefore (map g.J.AsJob.job l.jobs) (map (λ bits. bits.items) l.all.items) l.i
+    × AreKnown (map g.J.AsJob.job l.jobs) l.known.items

@@ -1,4 +1,5 @@
-use Rattle.gc_job.proofs.Names.{Ok, length-table}
+use Rattle.gc_job.proofs.Names.{length-table}
+use Rattle.std.proofs.Common.{rules}
 use Rattle.gc_job.proofs.OutputLemmas.{decoded-job}
 use Rattle.gc_job.proofs.detached.JobRef.decoded.Goals as goal
 
@@ -6,14 +7,16 @@ pub output_labels-labels-requires : goal.output_labels-labels-requires
 output_labels-labels-requires g c =
     rw c.circuit.ensures.circuit (length-table _ _ _ c.requires.table)
 
-pub returns-in-Ok : goal.returns-in-Ok
-returns-in-Ok g c =
+pub returns : goal.returns
+returns g c =
     let active = c.requires in
-    decoded-job c.args.self.now c.output_labels-labels.result.now (Ok c.in-Ok.bits.items)
+    let labels = c.output_labels-labels in
+    let is = decoded-job c.args.self.now labels.result.now _
     (record {
       active = active.active;
       evaluation = active.evaluation;
-      last = rw (← c.circuit.ensures.circuit) (c.output_labels-labels.ensures.last active.active
+      last = rw (← c.circuit.ensures.circuit) (labels.ensures.last active.active
           (rw c.circuit.ensures.circuit active.table));
     })
-    c.in-Ok.ensures
+    c.decode.ensures in
+    search rules
