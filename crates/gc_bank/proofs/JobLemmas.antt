@@ -1,6 +1,7 @@
 -- Jobs of a list.
 use Rattle.gc_bank.proofs.Names.{◌≡◌, ℕ, zero, suc, ◌+◌, ◌<◌, ◌∙◌, List, [], ◌∷◌, Bool, Vec, Option, Some, None, IfSome, take, slice_get, refl, sym, arith, Netlist, JobParts, AreBitsOf, AreKnown}
-use Rattle.std.proofs.Common.{drop, length}
+use Rattle.std.proofs.Common.{drop, length, map}
+use Rattle.std.proofs.lemmas.List.{map-id}
 use Rattle.gc_job.proofs.JobsLemmas.{if_some}
 use Rattle.gc_job.proofs.TakeLemmas.{slice_get-take, slice_get_taken}
 use Rattle.gc_bank.specs.Jobs.{AreOn, AreOnOneCircuit}
@@ -19,24 +20,28 @@ slice_get-drop (suc n) k (x ∷ xs) =
 
 -- The jobs of a part of the list are on one circuit too,
 module _ (jobs : List JobParts) (start n : ℕ) where
-  at_part : (k : ℕ) (job : JobParts) → slice_get (take n (drop start jobs)) k ≡ Some job
+  abbrev part : List JobParts
+  part = map (λ job. job) (take n (drop start jobs))
+
+  at_part : (k : ℕ) (job : JobParts) → slice_get part k ≡ Some job
       → (k < n) × (slice_get jobs (start + k) ≡ Some job)
   at_part k job at =
-      let taken = slice_get_taken n k (drop start jobs) job at in
+      let taken = slice_get_taken n k (drop start jobs) job
+      (rw (map-id (take n (drop start jobs))) at at) in
       (taken.0, sym (slice_get-drop start k jobs) ∙ taken.1)
 
-  pub part_one : AreOnOneCircuit jobs → AreOnOneCircuit (take n (drop start jobs))
+  pub part_one : AreOnOneCircuit jobs → AreOnOneCircuit part
   part_one one i k a b a_at b_at =
       one (start + i) (start + k) a b (at_part i a a_at).1 (at_part k b b_at).1
 
   -- and what is known of its jobs is known of them in the list.
   module _ {B : Type 0} (share : List (Option (Vec Bool B))) where
-    pub part_known : AreKnownFrom jobs start share → AreKnown (take n (drop start jobs)) share
+    pub part_known : AreKnownFrom jobs start share → AreKnown part share
     part_known known k d below =
         if_some _ _ _ (λ v is job at. is job (at_part k job at).1) (known k d below)
 
-    pub known_from_part : length share ≡ n → AreKnown (take n (drop start jobs)) share
-        → AreKnownFrom jobs start share
+    pub known_from_part : length share ≡ n → AreKnown part share → AreKnownFrom jobs start share
     known_from_part count known k d below =
-        if_some _ _ _ (λ v is job at. is job (slice_get-take n k (drop start jobs)
-        (omega (arith, count, below)) ∙ slice_get-drop start k jobs ∙ at)) (known k d below)
+        if_some _ _ _ (λ v is job at. is job (rw (map-id (take n (drop start jobs)))
+        (slice_get-take n k (drop start jobs) (omega (arith, count, below))
+        ∙ slice_get-drop start k jobs ∙ at))) (known k d below)

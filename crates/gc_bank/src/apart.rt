@@ -6,7 +6,7 @@ ghost use Rattle.gc_bank.specs.Jobs.{AreOnOneCircuit};
 ghost use Rattle.gc_bank.specs.Workers.{AreKnownFrom};
 
 use crate::crew::Crew;
-use gc_job::{JobRef, SIDE_BY_SIDE, evaluate_group, none_known};
+use gc_job::{Job, MAX_GROUP, evaluate_group, none_known};
 use gc_rounds::MAX_JOBS;
 use gc_workers::Gatehouse;
 use std::alloc::Allocator;
@@ -22,7 +22,7 @@ pub(crate) fn evaluate_apart<
     C: Allocator + Send + Sync,
     H: Gatehouse + Sync,
     R: Threads + Sync,
->(crew: &Crew<'_, B, H, R>, jobs: &[JobRef<'_, A, C>]) -> Vec<Option<Vec<bool, B>>, B>
+>(crew: &Crew<'_, B, H, R>, jobs: &[Job<'_, A, C>]) -> Vec<Option<Vec<bool, B>>, B>
     requires count { length jobs.now ≤ MAX_JOBS }
     requires workers { 0 < crew.now.workers }
     requires one { AreOnOneCircuit jobs.now }
@@ -43,12 +43,7 @@ fn evaluate_shares<
     C: Allocator + Send + Sync,
     H: Gatehouse + Sync,
     R: Threads + Sync,
->(
-    crew: &Crew<'_, B, H, R>,
-    jobs: &[JobRef<'_, A, C>],
-    known: &mut [Option<Vec<bool, B>>],
-    size: usize,
-)
+>(crew: &Crew<'_, B, H, R>, jobs: &[Job<'_, A, C>], known: &mut [Option<Vec<bool, B>>], size: usize)
     requires size { 0 < size }
     requires few { length jobs.now ≤ MAX_JOBS }
     requires room { length known.old ≤ length jobs.now }
@@ -87,7 +82,7 @@ fn worker_of(start: usize, size: usize) -> u32
 
 /// Reports each gate of these jobs to the observer, job by job.
 fn report<A: Allocator, C: Allocator, H: Gatehouse>(
-    jobs: &[JobRef<'_, A, C>],
+    jobs: &[Job<'_, A, C>],
     worker: u32,
     observer: &H,
 ) {
@@ -101,7 +96,7 @@ fn report<A: Allocator, C: Allocator, H: Gatehouse>(
 /// Evaluates the jobs from `start` on, one for each place of the share. The caller ensures that there are these jobs.
 fn evaluate_share<A: Allocator, B: Allocator + Copy, C: Allocator>(
     alloc: B,
-    jobs: &[JobRef<'_, A, C>],
+    jobs: &[Job<'_, A, C>],
     start: usize,
     share: &mut [Option<Vec<bool, B>>],
 )
@@ -112,9 +107,9 @@ fn evaluate_share<A: Allocator, B: Allocator + Copy, C: Allocator>(
     ensures known { AreKnownFrom jobs.now start share.new }
 {
     let part = &jobs[start..start + share.len()];
-    for group in 0..part.len().div_ceil(SIDE_BY_SIDE) {
-        let first = SIDE_BY_SIDE * group;
-        let end = (first + SIDE_BY_SIDE).min(part.len());
+    for group in 0..part.len().div_ceil(MAX_GROUP) {
+        let first = MAX_GROUP * group;
+        let end = (first + MAX_GROUP).min(part.len());
         evaluate_group(alloc, part, first..end, share);
     }
 }

@@ -7,7 +7,7 @@ ghost use Rattle.gc_bank.specs.Jobs.{AreOnOneCircuit, AreEvaluatedBy};
 use crate::apart::evaluate_apart;
 use crate::crew::Crew;
 use crate::together::evaluate_together;
-use gc_job::{EvalFault, Job, borrow_all, evaluate_rest};
+use gc_job::{EvalFault, Job, evaluate_rest};
 use gc_rounds::MAX_JOBS;
 use gc_workers::{Gatehouse, MAX_WORKERS, Way, way_of};
 use std::alloc::Allocator;
@@ -50,13 +50,12 @@ pub fn evaluate_jobs<
         workers,
         observer,
     };
-    let borrowed = borrow_all(alloc, jobs)?;
     let known = if is_shared(alloc, jobs, workers) {
         evaluate_together(&crew, jobs)
     } else {
-        evaluate_apart(&crew, &borrowed)
+        evaluate_apart(&crew, jobs)
     };
-    evaluate_rest(alloc, &borrowed, known)
+    evaluate_rest(alloc, jobs, known)
 }
 
 /// Whether several workers share each job, in place of evaluating jobs of their own.

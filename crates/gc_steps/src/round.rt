@@ -32,9 +32,12 @@ pub struct Prepared {
 impl Prepared {
     /// The gate with the labels that it reads.
     #[inline]
-    pub(crate) fn read_gate(self) -> ReadGate
-        ensures { result
-            ≡ record { gate = self.gate; first = self.labels.0; second = self.labels.1 } }
+    pub(crate) fn read_gate(&self) -> ReadGate
+        ensures { result ≡ record {
+          gate = self.now.gate;
+          first = self.now.labels.0;
+          second = self.now.labels.1;
+        } }
     {
         let (first, second) = self.labels;
         ReadGate {
