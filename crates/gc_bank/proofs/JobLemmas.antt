@@ -1,10 +1,14 @@
 -- Jobs of a list.
-use Rattle.gc_bank.proofs.Names.{◌≡◌, ℕ, zero, suc, ◌+◌, ◌<◌, ◌∙◌, List, [], ◌∷◌, Bool, Vec, Option, Some, None, IfSome, take, slice_get, refl, sym, arith, Netlist, JobParts, AreBitsOf, AreKnown}
-use Rattle.std.proofs.Common.{drop, length, map}
+use Rattle.gc_bank.proofs.Names.{◌≡◌, ℕ, zero, suc, ◌+◌, ◌<◌, ◌∙◌, List, [], ◌∷◌, Bool, Vec, Option, Some, None, IfSome, map, take, slice_get, refl, sym, ap, Ok, Err, arith, Netlist, JobParts, AreBitsOf, AreKnown}
+use Rattle.std.proofs.Common.{drop, length, Result}
 use Rattle.std.proofs.lemmas.List.{map-id}
 use Rattle.gc_job.proofs.JobsLemmas.{if_some}
 use Rattle.gc_job.proofs.TakeLemmas.{slice_get-take, slice_get_taken}
-use Rattle.gc_bank.specs.Jobs.{AreOn, AreOnOneCircuit}
+use Rattle.gc_job.specs.declared.fault.EvalFault.{EvalFault}
+use Rattle.gc_job.specs.declared.fault.EvalFault.TheVariants.{BadWorkers, UnknownOutputLabel, Memory}
+use Rattle.gc_job.specs.Jobs.{EvaluateTo}
+use Rattle.gc_workers.specs.Workers.{AreFew}
+use Rattle.gc_bank.specs.Jobs.{AreOn, AreOnOneCircuit, AreEvaluatedBy}
 use Rattle.gc_bank.specs.Workers.{AreKnownFrom}
 
 -- one job more on the circuit
@@ -13,10 +17,12 @@ pub on_more : (c : Netlist) (jobs : List JobParts) (n : ℕ) (job : JobParts)
 on_more c jobs n job at on before k other below is = grind (arith, before k other)
 
 slice_get-drop : {X : Type 0} (n k : ℕ) (xs : List X) → slice_get (drop n xs) k ≡ slice_get xs (n + k)
-slice_get-drop zero k xs = let same : 0 + k ≡ k = omega arith in rw same refl
-slice_get-drop (suc n) k [] = let next : suc n + k ≡ suc (n + k) = omega arith in rw next refl
+slice_get-drop zero k xs =
+    let same : k ≡ 0 + k = omega arith in ap (λ i. slice_get xs i) same
+slice_get-drop (suc n) k [] = refl
 slice_get-drop (suc n) k (x ∷ xs) =
-    let next : suc n + k ≡ suc (n + k) = omega arith in rw next (slice_get-drop n k xs)
+    let next : suc (n + k) ≡ suc n + k = omega arith in
+    slice_get-drop n k xs ∙ ap (λ i. slice_get (x ∷ xs) i) next
 
 -- The jobs of a part of the list are on one circuit too,
 module _ (jobs : List JobParts) (start n : ℕ) where
@@ -38,10 +44,20 @@ module _ (jobs : List JobParts) (start n : ℕ) where
   module _ {B : Type 0} (share : List (Option (Vec Bool B))) where
     pub part_known : AreKnownFrom jobs start share → AreKnown part share
     part_known known k d below =
-        if_some _ _ _ (λ v is job at. is job (at_part k job at).1) (known k d below)
+        if_some _ (λ (v : Vec Bool B). AreBitsOf part k v.items) _
+        (λ v is job at. is job (at_part k job at).1) (known k d below)
 
     pub known_from_part : length share ≡ n → AreKnown part share → AreKnownFrom jobs start share
     known_from_part count known k d below =
-        if_some _ _ _ (λ v is job at. is job (rw (map-id (take n (drop start jobs)))
+        if_some _ (λ (v : Vec Bool B). AreBitsOf jobs (start + k) v.items) _
+        (λ v is job at. is job (rw (map-id (take n (drop start jobs)))
         (slice_get-take n k (drop start jobs) (omega (arith, count, below))
         ∙ slice_get-drop start k jobs ∙ at))) (known k d below)
+
+-- A few workers evaluate jobs to what these are evaluated to.
+pub by_few : (workers : ℕ) (jobs : List JobParts) (result : Result (List (List Bool)) EvalFault)
+    → AreFew workers → EvaluateTo jobs result → AreEvaluatedBy workers jobs result
+by_few workers jobs (Ok outputs) few is = (few, is)
+by_few workers jobs (Err (UnknownOutputLabel output)) few is = (few, is)
+by_few workers jobs (Err Memory) few is = (few, is)
+by_few workers jobs (Err BadWorkers) few is = absurd is

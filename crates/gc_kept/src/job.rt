@@ -13,7 +13,7 @@ use crate::label_files::read_label_files;
 use crate::room::has_room;
 use gc_file::read_garbled;
 use gc_file::sizes::LABEL;
-use gc_job::{DetachedJob, EvalFault, Job, JobRef};
+use gc_job::{AsJob, DetachedJob, EvalFault, Job, JobRef};
 use std::alloc::Global;
 use std::marker::Model;
 
@@ -54,6 +54,14 @@ impl KeptCircuit {
             job: job.detach(),
             circuit: self.again()?,
         })
+    }
+}
+
+impl AsJob<Global, Global> for &KeptJob {
+    ghost job = { λ job. job.now };
+
+    fn as_job(&self) -> JobRef<'_> {
+        self.borrowed()
     }
 }
 

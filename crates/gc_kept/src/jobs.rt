@@ -8,7 +8,7 @@ ghost use Rattle.gc_kept.specs.Jobs.{AreAllEvaluated, HasJobListFault, outputs_o
 use crate::bits::write_bits;
 use crate::fault::KeptFault;
 use crate::job::KeptJob;
-use gc_job::{JobRef, SIDE_BY_SIDE, evaluate_group, evaluate_rest, none_known};
+use gc_job::{MAX_GROUP, evaluate_group, evaluate_rest, none_known};
 use std::alloc::{AllocError, Global};
 
 /// Evaluates these jobs on one thread, each as [`KeptJob::evaluate`] does, and writes the bits of the output wires, one
@@ -21,9 +21,8 @@ pub fn evaluate_list(alloc: Global, jobs: &[&KeptJob], bits: &mut [u8]) -> Resul
     ensures unwritten { OnErr result (bits.new ≡ bits.old) }
 {
     look_for_room(jobs, bits)?;
-    let borrowed = borrow_all(alloc, jobs)?;
-    let known = known_of(alloc, &borrowed)?;
-    let found = evaluate_rest(alloc, &borrowed, known)?;
+    let known = known_of(alloc, jobs)?;
+    let found = evaluate_rest(alloc, jobs, known)?;
     let all = joined(alloc, &found)?;
     write_bits(&all, &mut bits[..all.len()]);
     Ok(())
@@ -46,26 +45,12 @@ fn look_for_room(jobs: &[&KeptJob], buffer: &[u8]) -> Result<(), KeptFault>
     Ok(())
 }
 
-/// Each of these jobs, borrowed.
-fn borrow_all<'j>(
-    alloc: Global,
-    jobs: &'j [&'j KeptJob],
-) -> Result<Vec<JobRef<'j>, Global>, AllocError>
-    ensures { IfOk result (λ v. v.items ≡ map (λ j. j.now) jobs.now) }
-{
-    let mut borrowed = Vec::with_capacity(alloc, jobs.len())?;
-    for job in jobs {
-        borrowed.push(job.borrowed())?;
-    }
-    Ok(borrowed)
-}
-
 /// For each job its output bits, where evaluating jobs side by side gives some.
 fn known_of(
     alloc: Global,
-    jobs: &[JobRef<'_>],
+    jobs: &[&KeptJob],
 ) -> Result<Vec<Option<Vec<bool, Global>>, Global>, AllocError>
-    ensures { IfOk result (λ v. AreKnown jobs.now v.items) }
+    ensures { IfOk result (λ v. AreKnown (map (λ j. j.now) jobs.now) v.items) }
 {
     let mut known = none_known(alloc, jobs.len())?;
     let mut next = 0;
@@ -78,26 +63,26 @@ fn known_of(
 }
 
 /// Where the jobs end that are evaluated together, from one on: they are on one circuit.
-fn end_of_group(jobs: &[JobRef<'_>], first: usize) -> usize
+fn end_of_group(jobs: &[&KeptJob], first: usize) -> usize
     requires { first < length jobs.now }
     ensures some { first < result }
-    ensures few { result ≤ first + SIDE_BY_SIDE }
+    ensures few { result ≤ first + MAX_GROUP }
     ensures within { result ≤ length jobs.now }
-    ensures one { AreBeside jobs.now first result }
+    ensures one { AreBeside (map (λ j. j.now) jobs.now) first result }
 {
-    let last = (first + SIDE_BY_SIDE).min(jobs.len());
+    let last = (first + MAX_GROUP).min(jobs.len());
     let mut end = first + 1;
-    while end < last && is_beside(&jobs[end], &jobs[first]) {
+    while end < last && is_beside(jobs[end], jobs[first]) {
         end += 1;
     }
     end
 }
 
 /// Whether two jobs are on equal circuits.
-fn is_beside(job: &JobRef<'_>, other: &JobRef<'_>) -> bool
+fn is_beside(job: &KeptJob, other: &KeptJob) -> bool
     ensures { IsTrue result ↔ (job.now.circuit ≡ other.now.circuit) }
 {
-    job.circuit().equals(other.circuit())
+    job.borrowed().circuit().equals(other.borrowed().circuit())
 }
 
 /// These bits, one list's after another's.

@@ -1,6 +1,5 @@
-use Rattle.std.proofs.Common.{refl, arith}
-use Rattle.std.proofs.lemmas.Option.{slice_get_read}
-use Rattle.gc_kept.proofs.JobsLemmas.{one_more}
+use Rattle.std.proofs.Common.{map, arith}
+use Rattle.gc_kept.proofs.JobsLemmas.{job_at, one_more}
 use Rattle.gc_kept.proofs.jobs.end_of_group.Goals as goal
 
 pub loop-end-preserved : goal.loop-end-preserved
@@ -10,10 +9,9 @@ loop-end-preserved c =
     record {
       some = omega (arith, l.invariant.some);
       within = omega (arith, c.loop-end-test.true);
-      one = one_more jobs c.args.first l.end _ _
-          (slice_get_read jobs _ c.args.first _ refl (omega (arith, c.requires))
-          c.index-jobs-first.is)
-          (slice_get_read jobs _ l.end _ refl
+      one = one_more (map (λ j. j.now) jobs) c.args.first l.end _ _
+          (job_at jobs (λ j. j.now) c.args.first _ (omega (arith, c.requires)) c.index-jobs-first.is)
+          (job_at jobs (λ j. j.now) l.end _
           (omega (arith, c.loop-end-test.true, c.min-last.ensures)) c.index-jobs-end.is)
           (c.is_beside.ensures.0 c.if-is_beside.true) l.invariant.one;
     }

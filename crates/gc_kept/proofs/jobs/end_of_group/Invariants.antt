@@ -1,4 +1,4 @@
-use Rattle.std.proofs.Common.{◌-◌, ◌<◌, ◌≤◌}
+use Rattle.std.proofs.Common.{◌-◌, ◌<◌, ◌≤◌, map}
 use Rattle.gc_job.specs.Jobs.{AreBeside}
 use Rattle.gc_kept.proofs.jobs.end_of_group.Given as goal
 
@@ -6,7 +6,7 @@ abbrev pub invariant-loop-end : goal.invariant-loop-end
 invariant-loop-end l = record {
   some : l.first < l.end;
   within : l.end ≤ l.last;
-  one : AreBeside l.jobs l.first l.end;
+  one : AreBeside (map (λ j. j.now) l.jobs) l.first l.end;
 }
 
 abbrev pub decreases-loop-end : goal.decreases-loop-end
