@@ -1,5 +1,5 @@
 -- Jobs of a list.
-use Rattle.gc_bank.proofs.Names.{◌≡◌, ℕ, zero, suc, ◌+◌, ◌<◌, ◌∙◌, List, [], ◌∷◌, Bool, Vec, Option, Some, None, IfSome, map, take, slice_get, refl, sym, ap, Ok, Err, arith, Netlist, JobParts, AreBitsOf, AreKnown}
+use Rattle.gc_bank.proofs.Names.{◌≡◌, ℕ, zero, suc, ◌+◌, ◌<◌, ◌∙◌, List, [], ◌∷◌, Bool, Vec, Option, Some, map, take, slice_get, refl, sym, ap, Ok, Err, arith, Netlist, JobParts, AreBitsOf, AreKnown}
 use Rattle.std.proofs.Common.{drop, length, Result}
 use Rattle.std.proofs.lemmas.List.{map-id}
 use Rattle.gc_job.proofs.JobsLemmas.{if_some}

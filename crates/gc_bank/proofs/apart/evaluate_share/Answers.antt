@@ -1,4 +1,4 @@
-use Rattle.gc_bank.proofs.Names.{◌+◌, ◌-◌, ◌≡◌, length, refl, arith}
+use Rattle.gc_bank.proofs.Names.{◌+◌, ◌-◌, length, refl, arith}
 use Rattle.gc_bank.proofs.JobLemmas.{part_one, part_known, known_from_part}
 use Rattle.gc_bank.proofs.apart.evaluate_share.Goals as goal
 
