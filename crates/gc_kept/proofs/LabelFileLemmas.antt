@@ -83,7 +83,9 @@ module _ (offset : ℕ) where
       → encoded_with offset f a bits ≡ encoded_with offset g b bits
   encoded_shift f g a b [] same = refl
   encoded_shift f g a b (bit ∷ bits) same =
-      let here : f a ≡ g b = same 0 (omega arith) in
+      let left_end : a ≡ a + 0 = omega arith in
+      let right_end : b + 0 ≡ b = omega arith in
+      let here : f a ≡ g b = ap f left_end ∙ same 0 (omega arith) ∙ ap g right_end in
       let rest : encoded_with offset f (a + 1) bits ≡ encoded_with offset g (b + 1) bits =
       encoded_shift f g (a + 1) (b + 1) bits (λ i below.
       let left : a + 1 + i ≡ a + (i + 1) = omega arith in

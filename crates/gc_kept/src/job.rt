@@ -1,6 +1,6 @@
 //! Jobs that hold their circuit.
 
-ghost use Rattle.std.specs.Prelude.{◌≡◌, length, IfOk, IfErr, OnOk, OnErr};
+ghost use Rattle.std.specs.Prelude.{◌≡◌, ◌<◌, ◌^◌, length, IfOk, IfErr, OnOk, OnErr};
 ghost use Rattle.gc_netlist.specs.Circuit.{output_wires};
 ghost use Rattle.gc_kept.specs.Job.{IsBoundJob, HasKeptJobFault, AreEvaluated, HasEvaluationFault};
 ghost use Rattle.gc_kept.specs.Labels.{AreJobLabels, HasJobLabelsFault};
@@ -75,7 +75,8 @@ impl KeptJob {
 
     /// How many output wires the circuit has.
     pub(crate) fn outputs(&self) -> usize
-        ensures { result ≡ output_wires self.now.circuit }
+        ensures outputs { result ≡ output_wires self.now.circuit }
+        ensures few { result < 2 ^ 32 }
     {
         self.circuit.circuit().output_wires() as usize
     }

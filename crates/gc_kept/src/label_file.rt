@@ -103,11 +103,13 @@ impl KeptCircuit {
         ensures bytes { IfOk result (λ v. bits.now ≡ map bit_number v.items) }
         ensures width { IfOk result (λ v.
             slice_get self.now.input_widths index ≡ Some (length v.items)) }
+        ensures few { IfOk result (λ v. length v.items < 2 ^ 32) }
         ensures room { IfOk result (λ v. 16 + 16 * length v.items ≤ length buffer.now) }
         ensures fault { (offset : ℕ) (zero_label : ℕ → ℕ) → IfErr result (HasDealtFaultWith self.now
             offset zero_label index bits.now (length buffer.now) written.new) }
         ensures unreported { IfErr result (λ fault.
             fault ≢ KeptFault.SmallBuffer → written.new ≡ written.old) }
+        ensures unwritten { IfOk result (λ _. written.new ≡ written.old) }
     {
         let width = self.input_width(index)?;
         let bits = read_bits(alloc, bits, width)?;
@@ -165,11 +167,11 @@ impl KeptCircuit {
         ensures unreported { IfErr result (λ fault.
             fault ≢ KeptFault.SmallBuffer → written.new ≡ written.old) }
     {
-        let size = LABEL * self.input_width(index)?;
-        if labels.len() != size {
+        let width = self.input_width(index)?;
+        if labels.len() != LABEL * width {
             return Err(KeptFault::WrongSize);
         }
-        look_for_room(LABEL_HEADER + size, buffer, written)?;
+        look_for_room(LABEL_HEADER + LABEL * width, buffer, written)?;
         let Ok(labels) = labels_from_bytes(alloc, labels) else {
             return Err(KeptFault::Memory);
         };
@@ -199,8 +201,7 @@ impl KeptGarbling {
     {
         let circuit = self.circuit();
         let bits = circuit.dealt_bits(alloc, index, bits, buffer, written)?;
-        let first = first_wire(circuit.circuit(), index as usize) as usize;
-        let zero_labels = self.zero_labels_from(first, bits.len());
+        let zero_labels = self.input_zero_labels(index, bits.len());
         let labels = encoded(alloc, self.offset, zero_labels, &bits)?;
         *written = write_file(index, &labels, buffer);
         Ok(())

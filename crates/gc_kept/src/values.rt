@@ -1,6 +1,6 @@
 //! What a garbling has for the wires of a value, for its AND gates, and for its output wires.
 
-ghost use Rattle.std.specs.Prelude.{◌≡◌, ◌+◌, ◌-◌, ◌*◌, ◌^◌, ◌<◌, ◌≤◌, ◌⊎◌, length, map, flat_map, take, sum, IfErr, OnOk, OnErr};
+ghost use Rattle.std.specs.Prelude.{◌≡◌, ◌+◌, ◌-◌, ◌*◌, ◌^◌, ◌<◌, ◌≤◌, ◌⊎◌, length, map, flat_map, take, sum, slice_get, Some, IfErr, OnOk, OnErr};
 ghost use Rattle.gc_netlist.specs.Circuit.{output_wires};
 ghost use Rattle.gc_netlist.specs.Spelling.{bit_number};
 ghost use Rattle.gc_label.specs.Label.{◌⊕◌, bytes_of_label};
@@ -51,8 +51,7 @@ impl KeptGarbling {
         ensures one_unwritten { OnErr result (one.new ≡ one.old) }
     {
         let width = self.circuit().input_width(index)?;
-        let from = first_wire(self.circuit().circuit(), index as usize) as usize;
-        self.write_both(self.zero_labels_from(from, width), zero, one)
+        self.write_both(self.input_zero_labels(index, width), zero, one)
     }
 
     /// Writes both labels of each wire of the output value with this index, as [`KeptGarbling::input_labels`] does
@@ -70,13 +69,26 @@ impl KeptGarbling {
         ensures zero_unwritten { OnErr result (zero.new ≡ zero.old) }
         ensures one_unwritten { OnErr result (one.new ≡ one.old) }
     {
+        self.law_garbled();
         let width = self.circuit().output_width(index)?;
         let from = first_output(self.circuit().circuit(), index as usize) as usize;
         self.write_both(self.zero_labels_from(from, width), zero, one)
     }
 
+    /// The zero labels of the input value with this index. The caller ensures that this is its width.
+    pub(crate) fn input_zero_labels(&self, index: u32, width: usize) -> &[Label]
+        requires { slice_get self.now.circuit.input_widths index ≡ Some width }
+        ensures labels { result.now
+            ≡ zero_labels_from self.now (first_wire_of self.now.circuit index) width }
+        ensures count { length result.now ≡ width }
+    {
+        self.law_garbled();
+        let from = first_wire(self.circuit().circuit(), index as usize) as usize;
+        self.zero_labels_from(from, width)
+    }
+
     /// The zero labels of `count` wires, from wire `from` on. The caller ensures that there are such wires.
-    pub(crate) fn zero_labels_from(&self, from: usize, count: usize) -> &[Label]
+    fn zero_labels_from(&self, from: usize, count: usize) -> &[Label]
         requires { from + count ≤ length self.now.garbling.zero_labels }
         ensures labels { result.now ≡ zero_labels_from self.now from count }
         ensures count { length result.now ≡ count }

@@ -1,12 +1,13 @@
-use Rattle.std.proofs.Common.{◌≡◌, ◌∙◌, ◌+◌, ◌*◌, ◌≤◌, length, map, take, sym, ap, arith}
+use Rattle.std.proofs.Common.{◌≡◌, ◌≢◌, ◌∙◌, ◌+◌, ◌*◌, ◌≤◌, length, map, take, sym, ap, arith}
 use Rattle.std.specs.List.{range_with_len, slice_index, sum}
 use Rattle.std.proofs.lemmas.List.{length-map}
 use Rattle.std.proofs.lemmas.List.FromFn.{length-map-range_with_len}
-use Rattle.std.proofs.lemmas.Option.{slice_get_within}
 use Rattle.std.proofs.lemmas.Result.{err_from_is_err_and}
 use Rattle.gc_label.specs.Seed.{offset_of, input_label_of}
 use Rattle.gc_file.specs.LabelFile.{encoded_with}
 use Rattle.gc_file.proofs.DealLemmas.{first_wire-room, length-encoded_with}
+use Rattle.gc_netlist.specs.Circuit.{Netlist}
+use Rattle.gc_kept.specs.declared.fault.KeptFault.TheVariants.{Memory}
 use Rattle.gc_kept.specs.Files.{of_file}
 use Rattle.gc_kept.proofs.LabelFileLemmas.{dealt_under, length-dealt}
 use Rattle.gc_kept.proofs.circuit.KeptCircuit.deal.Goals as goal
@@ -16,3 +17,93 @@ returns-in_err-bits-clause-fault c =
     let p = err_from_is_err_and c.from_residual.result c.from_residual.ensures.1 in
     rw (p.1, p.2) (c.in_err-bits.ensures.fault (offset_of c.args.seed.now)
     (input_label_of c.args.seed.now))
+
+pub zero_labels-requires : goal.zero_labels-requires
+zero_labels-requires c =
+    let bits = c.in_ok-bits.bits.items in
+    omega (
+      arith,
+      c.first_wire-first.ensures,
+      c.len.ensures,
+      ap (λ (n : Netlist). sum (take c.args.index n.input_widths)) c.circuit.ensures.same,
+      first_wire-room c.args.self.now c.circuit.ensures.lawful c.args.index (length bits)
+          c.in_ok-bits.ensures.width,
+    )
+
+pub returns-in_err-zero_labels-clause-fault : goal.returns-in_err-zero_labels-clause-fault
+returns-in_err-zero_labels-clause-fault c =
+    let p = err_from_is_err_and c.from_residual-in_err-zero_labels.result
+    c.from_residual-in_err-zero_labels.ensures.1 in
+    rw (p.1, p.2) (of_file c.in_ok-bits.bits.items Memory c.in_ok-bits.ensures.bytes
+    c.in_ok-bits.ensures.width tt)
+
+pub returns-in_err-labels-clause-fault : goal.returns-in_err-labels-clause-fault
+returns-in_err-labels-clause-fault c =
+    let p = err_from_is_err_and c.from_residual-in_err-labels.result
+    c.from_residual-in_err-labels.ensures.1 in
+    rw (p.1, p.2) (of_file c.in_ok-bits.bits.items Memory c.in_ok-bits.ensures.bytes
+    c.in_ok-bits.ensures.width tt)
+
+pub encoded-requires : goal.encoded-requires
+encoded-requires c =
+    let zero_label = input_label_of c.from_bytes-seed.result in
+    omega (
+      arith,
+      ap length c.deref.ensures.value,
+      ap length c.in_ok-zero_labels.ensures,
+      length-map-range_with_len zero_label c.first_wire-first.result c.len.result,
+      c.len.ensures,
+      ap length c.deref-2.ensures.value,
+    )
+
+pub write_file-requires-clause-room : goal.write_file-requires-clause-room
+write_file-requires-clause-room c =
+    omega (
+      arith,
+      c.in_ok-bits.ensures.room,
+      ap length c.deref-3.ensures.value,
+      ap length c.in_ok-labels.ensures,
+      length-encoded_with c.offset.result (slice_index c.deref.result.now) 0 c.deref-2.result.now,
+      ap length c.deref-2.ensures.value,
+    )
+
+pub write_file-requires-clause-few : goal.write_file-requires-clause-few
+write_file-requires-clause-few c =
+    omega (
+      arith,
+      c.in_ok-bits.ensures.few,
+      ap length c.deref-3.ensures.value,
+      ap length c.in_ok-labels.ensures,
+      length-encoded_with c.offset.result (slice_index c.deref.result.now) 0 c.deref-2.result.now,
+      ap length c.deref-2.ensures.value,
+    )
+
+pub returns-clause-ok : goal.returns-clause-ok
+returns-clause-ok c =
+    let circuit = c.args.self.now in
+    let index = c.args.index in
+    let bits = c.in_ok-bits.bits.items in
+    let seed = c.args.seed.now in
+    let made = c.from_bytes-seed.result in
+    let first = c.first_wire-first.result in
+    let long : c.len.result ≡ length bits = omega (arith, c.len.ensures) in
+    let zeros = c.deref.ensures.value ∙ (rw long at c.in_ok-zero_labels.ensures) in
+    let labels = c.deref-3.ensures.value
+    ∙ (rw c.deref-2.ensures.value at c.in_ok-labels.ensures)
+    ∙ dealt_under c.offset.result made c.deref.result.now first bits zeros in
+    let from = c.first_wire-first.ensures
+    ∙ ap (λ (n : Netlist). sum (take index n.input_widths)) c.circuit.ensures.same in
+    record {
+      bits = bits;
+      bytes_are = c.in_ok-bits.ensures.bytes;
+      width = c.in_ok-bits.ensures.width;
+      file = (rw (labels, c.offset.ensures, c.from_bytes-seed.ensures, from)
+          at c.write_file.ensures.file);
+      count = omega (
+        arith,
+        c.write_file.ensures.size,
+        ap length labels,
+        length-encoded_with c.offset.result (input_label_of made) first bits,
+        length-dealt circuit (offset_of seed) (input_label_of seed) index bits,
+      );
+    }

@@ -1,16 +1,34 @@
-use Rattle.std.proofs.Common.{◌≡◌, ◌∙◌, ◌+◌, ◌*◌, ◌<◌, length, sym, ap, arith}
-use Rattle.std.proofs.lemmas.Result.{err_from_is_err_and}
-use Rattle.gc_file.proofs.DealLemmas.{first_wire-room}
+use Rattle.std.proofs.Common.{◌≡◌, ◌+◌, ◌*◌, length, sym, ap, arith}
 use Rattle.gc_kept.proofs.PieceLemmas.{length-labels}
 use Rattle.gc_kept.proofs.circuit.KeptCircuit.label_file.Goals as goal
 
-pub write_file-requires-clause-few : goal.write_file-requires-clause-few
-write_file-requires-clause-few c =
-    let fits = first_wire-room c.args.self.now c.circuit.ensures.lawful c.args.index
-    c.in_ok-size.width c.in_ok-size.ensures.ok in
+pub write_file-requires-clause-room : goal.write_file-requires-clause-room
+write_file-requires-clause-room c =
     omega (
       arith,
-      fits,
+      c.in_ok-look_for_room.ensures.ok,
       ap length c.deref.ensures.value,
       length-labels c.in-Ok.labels.items c.args.labels.now c.in-Ok.ensures.bytes,
     )
+
+pub write_file-requires-clause-few : goal.write_file-requires-clause-few
+write_file-requires-clause-few c =
+    omega (
+      arith,
+      c.in_ok-width.ensures.few,
+      ap length c.deref.ensures.value,
+      length-labels c.in-Ok.labels.items c.args.labels.now c.in-Ok.ensures.bytes,
+    )
+
+pub returns-clause-ok : goal.returns-clause-ok
+returns-clause-ok c =
+    let labels = c.in-Ok.labels.items in
+    let many = length-labels labels c.args.labels.now c.in-Ok.ensures.bytes in
+    let count : length labels ≡ c.in_ok-width.width = omega (arith, many) in
+    record {
+      labels = labels;
+      labels_are = record { spelled = sym c.in-Ok.ensures.bytes; each = c.in-Ok.ensures.labels };
+      width = rw count c.in_ok-width.ensures.ok;
+      file = (rw c.deref.ensures.value at c.write_file.ensures.file);
+      count = omega (arith, many, c.write_file.ensures.size, ap length c.deref.ensures.value);
+    }
