@@ -1,4 +1,4 @@
-use Rattle.std.proofs.Common.{◌≡◌, ◌∙◌, ◌≤◌, length, map, take, ap, arith}
+use Rattle.std.proofs.Common.{◌∙◌, ◌≤◌, length, map, ap, arith}
 use Rattle.std.proofs.lemmas.List.{length-take-le}
 use Rattle.gc_kept.proofs.JobsLemmas.{length-all}
 use Rattle.gc_kept.proofs.jobs.evaluate_list.Goals as goal

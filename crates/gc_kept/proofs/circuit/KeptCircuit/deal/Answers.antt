@@ -1,10 +1,8 @@
-use Rattle.std.proofs.Common.{◌≡◌, ◌≢◌, ◌∙◌, ◌+◌, ◌*◌, ◌≤◌, length, map, take, sym, ap, arith}
-use Rattle.std.specs.List.{range_with_len, slice_index, sum}
-use Rattle.std.proofs.lemmas.List.{length-map}
+use Rattle.std.proofs.Common.{◌≡◌, ◌∙◌, length, take, ap, arith}
+use Rattle.std.specs.List.{slice_index, sum}
 use Rattle.std.proofs.lemmas.List.FromFn.{length-map-range_with_len}
 use Rattle.std.proofs.lemmas.Result.{err_from_is_err_and}
 use Rattle.gc_label.specs.Seed.{offset_of, input_label_of}
-use Rattle.gc_file.specs.LabelFile.{encoded_with}
 use Rattle.gc_file.proofs.DealLemmas.{first_wire-room, length-encoded_with}
 use Rattle.gc_netlist.specs.Circuit.{Netlist}
 use Rattle.gc_kept.specs.declared.fault.KeptFault.TheVariants.{Memory}

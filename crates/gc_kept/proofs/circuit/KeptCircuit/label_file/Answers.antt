@@ -1,4 +1,4 @@
-use Rattle.std.proofs.Common.{◌≡◌, ◌+◌, ◌*◌, length, sym, ap, arith}
+use Rattle.std.proofs.Common.{◌≡◌, length, sym, ap, arith}
 use Rattle.gc_kept.proofs.PieceLemmas.{length-labels}
 use Rattle.gc_kept.proofs.circuit.KeptCircuit.label_file.Goals as goal
 

@@ -1,8 +1,7 @@
-use Rattle.std.proofs.Common.{◌≡◌, ◌∙◌, ◌+◌, ◌*◌, ◌≤◌, length, map, take, sym, ap, arith}
+use Rattle.std.proofs.Common.{◌≡◌, ◌∙◌, length, take, ap, arith}
 use Rattle.std.specs.List.{slice_index, sum}
 use Rattle.std.proofs.lemmas.Result.{err_from_is_err_and}
-use Rattle.gc_file.specs.LabelFile.{encoded_with}
-use Rattle.gc_file.proofs.DealLemmas.{first_wire-room, length-encoded_with}
+use Rattle.gc_file.proofs.DealLemmas.{length-encoded_with}
 use Rattle.gc_kept.specs.declared.fault.KeptFault.TheVariants.{Memory}
 use Rattle.gc_kept.specs.Garbling.{GarblingWith}
 use Rattle.gc_kept.specs.Files.{of_file}

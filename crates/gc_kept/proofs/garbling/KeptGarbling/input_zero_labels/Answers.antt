@@ -1,4 +1,4 @@
-use Rattle.std.proofs.Common.{◌≡◌, ◌∙◌, ap, arith}
+use Rattle.std.proofs.Common.{◌∙◌, ap, arith}
 use Rattle.gc_audit.specs.Labels.{first_wire_of}
 use Rattle.gc_kept.proofs.LabelFileLemmas.{input-fits}
 use Rattle.gc_kept.proofs.garbling.KeptGarbling.input_zero_labels.Goals as goal

@@ -1,4 +1,4 @@
-use Rattle.std.proofs.Common.{◌≡◌, ◌∙◌, ap, arith}
+use Rattle.std.proofs.Common.{◌∙◌, ap, arith}
 use Rattle.gc_kept.specs.Labels.{first_output_of}
 use Rattle.gc_kept.proofs.OutcomeLemmas.{OnOk-both, IfErr-map}
 use Rattle.gc_kept.proofs.LabelFileLemmas.{output-fits}
