@@ -22,6 +22,7 @@ mod label_file;
 mod label_files;
 mod many;
 mod plain;
+mod room;
 mod values;
 mod version;
 mod wires;
