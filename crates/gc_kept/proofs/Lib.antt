@@ -1,5 +1,4 @@
 pub mod FileLemmas
-pub mod JobLemmas
 pub mod JobsLemmas
 pub mod OutcomeLemmas
 pub mod PlainLemmas
@@ -7,4 +6,6 @@ pub mod RoomLemmas
 mod PieceLemmas
 mod LabelFileLemmas
 mod ManyLemmas
+mod OpenLemmas
+mod EachLemmas
 mod GarblingsLemmas

@@ -1,16 +1,18 @@
 //! Circuits with their digests, which several may hold.
 
-ghost use Rattle.std.specs.Prelude.{◌≡◌, IfOk, IfErr};
+ghost use Rattle.std.specs.Prelude.{◌≡◌, ◌≢◌, Some, slice_get, IfOk, IfErr};
 ghost use Rattle.sha2.specs.Sha256.{sha256};
 ghost use Rattle.gc_netlist.specs.Circuit.{IsLawful};
 ghost use Rattle.gc_netlist.specs.Canon.{canonical_text};
 ghost use Rattle.gc_netlist.specs.Spelling.{Spells};
+ghost use Rattle.gc_circuit.specs.Arrays.{IsFound, text_of};
 ghost use Rattle.gc_depth.specs.Order.{IsOrdered};
-ghost use Rattle.gc_kept.specs.Circuit.{HasCircuitTextFault};
+ghost use Rattle.gc_kept.specs.Circuit.{HasCircuitTextFault, HasNoValue};
 
 use crate::fault::KeptFault;
-use gc_circuit::Circuit;
+use gc_circuit::{Arrays, ArraysFault, Circuit, ReadFault};
 use gc_depth::order_by_depth;
+use gc_job::BindFault;
 use std::alloc::{AllocError, Global};
 use std::marker::Model;
 use std::sync::Arc;
@@ -60,6 +62,17 @@ impl Digested {
     }
 }
 
+/// The width at this index, or 42 where there is none.
+fn width_of(widths: &[u32], index: u32) -> Result<usize, KeptFault>
+    ensures ok { IfOk result (λ width. slice_get widths.now index ≡ Some width) }
+    ensures fault { IfErr result (HasNoValue widths.now index) }
+{
+    match widths.get(index as usize) {
+        Some(width) => Ok(*width as usize),
+        None => Err(KeptFault::Binding(BindFault::NoSuchValue)),
+    }
+}
+
 /// A circuit with its digest. It is shared with its garblings and jobs, and dropped with the last holder.
 #[derive(Drop)]
 pub struct KeptCircuit {
@@ -85,6 +98,17 @@ impl KeptCircuit {
         Ok(KeptCircuit { shared })
     }
 
+    /// Makes a circuit of arrays, as [`Circuit::from_arrays`] does, and takes its digest.
+    pub fn from_arrays(alloc: Global, arrays: Arrays<'_>) -> Result<KeptCircuit, ArraysFault>
+        ensures ok { IfOk result (λ c. IsLawful c × (canonical_text c ≡ text_of arrays.entry)) }
+        ensures fault { IfErr result (λ e. e.fault ≢ ReadFault.Memory
+            → IsFound (text_of arrays.entry) e.fault e.gate e.wire) }
+    {
+        let circuit = Circuit::from_arrays(alloc, arrays)?;
+        let shared = Arc::new(alloc, Digested::new(circuit))?;
+        Ok(KeptCircuit { shared })
+    }
+
     /// The circuit with its gates in order of AND depth, as [`order_by_depth`] puts them, and its digest.
     pub fn ordered(&self, alloc: Global) -> Result<KeptCircuit, KeptFault>
         ensures ok { IfOk result (IsOrdered self.now) }
@@ -103,6 +127,14 @@ impl KeptCircuit {
         ensures lawful { IsLawful self.now }
     {
         self.shared.circuit()
+    }
+
+    /// How many wires the output value with this index has. It refuses an index without a value (42).
+    pub(crate) fn output_width(&self, index: u32) -> Result<usize, KeptFault>
+        ensures ok { IfOk result (λ width. slice_get self.now.output_widths index ≡ Some width) }
+        ensures fault { IfErr result (HasNoValue self.now.output_widths index) }
+    {
+        width_of(self.circuit().output_widths(), index)
     }
 
     /// Its digest, which was taken when it was read.

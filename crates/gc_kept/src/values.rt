@@ -18,10 +18,11 @@ use gc_circuit::Circuit;
 use gc_file::first_wire;
 use gc_file::sizes::{LABEL, PAIR};
 use gc_job::BindFault;
+use gc_label::Label;
 use std::alloc::{Allocator, Global};
 
 /// The first wire of the output value with this index. The caller ensures that there are at least as many values.
-fn first_output<A: Allocator>(circuit: &Circuit<A>, index: usize) -> u32
+pub(crate) fn first_output<A: Allocator>(circuit: &Circuit<A>, index: usize) -> u32
     requires { index ≤ length circuit.now.output_widths }
     ensures { result ≡ first_output_of circuit.now index }
 {
@@ -80,6 +81,15 @@ impl KeptGarbling {
         self.write_both(from as usize, *width as usize, zero, one)
     }
 
+    /// The zero labels of `count` wires, from wire `from` on. The caller ensures that there are such wires.
+    pub(crate) fn zero_labels_from(&self, from: usize, count: usize) -> &[Label]
+        requires { from + count ≤ length self.now.garbling.zero_labels }
+        ensures labels { result.now ≡ zero_labels_from self.now from count }
+        ensures count { length result.now ≡ count }
+    {
+        &self.garbling.zero_labels()[from..from + count]
+    }
+
     /// Writes both labels of `count` wires, from wire `from` on. The caller ensures that there are such wires.
     fn write_both(
         &self,
@@ -101,7 +111,7 @@ impl KeptGarbling {
         ensures zero_unwritten { OnErr result (zero.new ≡ zero.old) }
         ensures one_unwritten { OnErr result (one.new ≡ one.old) }
     {
-        let labels = &self.garbling.zero_labels()[from..from + count];
+        let labels = self.zero_labels_from(from, count);
         has_room(LABEL * count, zero)?;
         has_room(LABEL * count, one)?;
         write_labels(labels, zero);
