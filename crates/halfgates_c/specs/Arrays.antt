@@ -1,4 +1,4 @@
--- Circuits from arrays.
+-- Circuits from arrays of gates.
 use Rattle.std.specs.Prelude.{◌≡◌, ◌≢◌, ◌⊎◌, ℕ, List, pos, Option, unwrap_or}
 use Rattle.gc_netlist.specs.declared.fault.ReadFault.{ReadFault}
 use Rattle.gc_netlist.specs.declared.fault.ReadFault.TheVariants as read

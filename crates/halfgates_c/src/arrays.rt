@@ -1,4 +1,4 @@
-//! Circuits from arrays.
+//! Circuits from arrays of gates.
 
 ghost use Rattle.std.specs.Prelude.{◌≡◌, ◌≢◌, OnOk, OnErr, IfErr, pos};
 ghost use Rattle.core.specs.Ptr.{as_mut_ptr};
@@ -28,8 +28,8 @@ fn place_of(at: ArraysFault) -> Place
     }
 }
 
-/// Makes a circuit from arrays and hands it out, or writes the place of the first fault.
-fn take(
+/// Makes a circuit of arrays and hands it out, or writes where the first fault is.
+fn make(
     alloc: Global,
     arrays: Arrays<'_>,
     slot: &mut Slot,
@@ -52,7 +52,7 @@ fn take(
     slot.hand_out(alloc, Held::Circuit(circuit))
 }
 
-/// Makes a circuit from arrays.
+/// Makes a circuit of arrays of gates.
 #[unsafe(no_mangle)]
 pub extern "C" fn halfgates_circuit_from_gates(
     alloc: Global,
@@ -80,5 +80,5 @@ pub extern "C" fn halfgates_circuit_from_gates(
         output_widths,
         gates,
     };
-    code_of(take(alloc, arrays, circuit, place))
+    code_of(make(alloc, arrays, circuit, place))
 }

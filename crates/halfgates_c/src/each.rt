@@ -46,12 +46,7 @@ fn evaluate(
 }
 
 /// Evaluates the jobs that these handles hold.
-fn evaluate_held(
-    alloc: Global,
-    borrows: &[Borrow<Held>],
-    bits: &mut [u8],
-    codes: &mut [i32],
-) -> i32
+fn evaluate_held(alloc: Global, borrows: &[Borrow<Held>], bits: &mut [u8], codes: &mut [i32]) -> i32
     ensures answer { OfJobs (map (λ b. b.value) borrows.now) result (λ jobs.
         Answers result (AreCodes jobs bits.old bits.new codes.new)
         (HasEachFault jobs (length bits.old) (length codes.old))) }

@@ -49,6 +49,8 @@ loop-i-preserved c =
 pub returns-clause-right : goal.returns-clause-right
 returns-clause-right c all active are =
     let l = c.loop-i in
-    let found = l.invariant.right all active are in
-    (found.0, sym (take_all l.i active
-    (omega (arith, length-are c.args.labels.now active are, c.requires))) ∙ found.1)
+    let found = l.invariant.right all active are in (
+      found.0,
+      sym (take_all l.i active
+          (omega (arith, length-are c.args.labels.now active are, c.requires))) ∙ found.1,
+    )
