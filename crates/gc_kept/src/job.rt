@@ -1,6 +1,6 @@
 //! Jobs that hold their circuit.
 
-ghost use Rattle.std.specs.Prelude.{◌≡◌, ◌^◌, ◌<◌, ◌↔◌, length, IfOk, IfErr, IsTrue, OnOk, OnErr};
+ghost use Rattle.std.specs.Prelude.{◌≡◌, ◌<◌, ◌^◌, length, IfOk, IfErr, OnOk, OnErr};
 ghost use Rattle.gc_netlist.specs.Circuit.{output_wires};
 ghost use Rattle.gc_kept.specs.Job.{IsBoundJob, HasKeptJobFault, AreEvaluated, HasEvaluationFault};
 ghost use Rattle.gc_kept.specs.Labels.{AreJobLabels, HasJobLabelsFault};
@@ -72,16 +72,9 @@ impl KeptJob {
         self.job.with_circuit(self.circuit.circuit())
     }
 
-    /// Whether another job is on an equal circuit.
-    pub(crate) fn is_beside(&self, other: &KeptJob) -> bool
-        ensures { IsTrue result ↔ (self.now.circuit ≡ other.now.circuit) }
-    {
-        self.circuit.circuit().equals(other.circuit.circuit())
-    }
-
     /// How many output wires the circuit has.
     pub(crate) fn outputs(&self) -> usize
-        ensures count { result ≡ output_wires self.now.circuit }
+        ensures outputs { result ≡ output_wires self.now.circuit }
         ensures few { result < 2 ^ 32 }
     {
         self.circuit.circuit().output_wires() as usize

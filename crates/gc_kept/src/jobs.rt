@@ -1,6 +1,6 @@
 //! Lists of jobs.
 
-ghost use Rattle.std.specs.Prelude.{◌≡◌, ◌+◌, ◌<◌, ◌≤◌, length, map, flat_map, IfOk, IfErr, OnOk, OnErr};
+ghost use Rattle.std.specs.Prelude.{◌≡◌, ◌↔◌, ◌+◌, ◌<◌, ◌≤◌, length, map, flat_map, IfOk, IfErr, IsTrue, OnOk, OnErr};
 ghost use Rattle.gc_job.specs.Jobs.{AreBeside, AreKnown};
 ghost use Rattle.gc_kept.specs.Files.{HasRoomFault};
 ghost use Rattle.gc_kept.specs.Jobs.{AreAllEvaluated, HasJobListFault, outputs_of};
@@ -73,10 +73,17 @@ fn end_of_group(jobs: &[&KeptJob], first: usize) -> usize
 {
     let last = (first + MAX_GROUP).min(jobs.len());
     let mut end = first + 1;
-    while end < last && jobs[end].is_beside(jobs[first]) {
+    while end < last && is_beside(jobs[end], jobs[first]) {
         end += 1;
     }
     end
+}
+
+/// Whether two jobs are on equal circuits.
+fn is_beside(job: &KeptJob, other: &KeptJob) -> bool
+    ensures { IsTrue result ↔ (job.now.circuit ≡ other.now.circuit) }
+{
+    job.borrowed().circuit().equals(other.borrowed().circuit())
 }
 
 /// These bits, one list's after another's.

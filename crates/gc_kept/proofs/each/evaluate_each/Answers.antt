@@ -12,7 +12,7 @@ overflow_add-end c =
     let job = c.index-jobs-i.result in
     let at = job_at jobs (λ j. j.now) l.i job (omega arith) c.index-jobs-i.is in
     let within = outputs_within (map (λ j. j.now) jobs) l.i job.now at in
-    omega (arith, l.invariant.place, within, c.outputs.ensures.count, c.in_ok-look_for_room.ensures.ok)
+    omega (arith, l.invariant.place, within, c.outputs.ensures.outputs, c.in_ok-look_for_room.ensures.ok)
 
 pub slice_bounds-outcome-end : goal.slice_bounds-outcome-end
 slice_bounds-outcome-end c =
@@ -26,7 +26,7 @@ slice_bounds-outcome-end c =
       l.invariant.place,
       l.auto.bits,
       within,
-      c.outputs.ensures.count,
+      c.outputs.ensures.outputs,
       c.in_ok-look_for_room.ensures.ok,
     )
 
@@ -44,7 +44,7 @@ loop-i-preserved c =
       l.invariant.place,
       l.auto.bits,
       within,
-      c.outputs.ensures.count,
+      c.outputs.ensures.outputs,
       c.in_ok-look_for_room.ensures.ok,
     ) in
     let size : l.place + n - l.place ≡ n = omega arith in
@@ -55,7 +55,7 @@ loop-i-preserved c =
     rw size at c.outcome-outcome.auto.bits in
     let is = rw size at c.outcome-outcome.ensures in
     record {
-      place = omega (arith, l.invariant.place, outputs_next jobs l.i job.now at, c.outputs.ensures.count);
+      place = omega (arith, l.invariant.place, outputs_next jobs l.i job.now at, c.outputs.ensures.outputs);
       made = omega (arith, c.push_reserved.ensures.len, l.invariant.made);
       grown = rw c.push_reserved.ensures.items
           (omega (arith, length-append l.outcomes.items (c.outcome-outcome.result ∷ []), l.invariant.grown));
@@ -66,9 +66,9 @@ loop-i-preserved c =
       each = λ k j o j_at o_at.
           rw size (outcome_next jobs c.args.bits.now l.bits part l.i l.place n job.now
           c.outcome-outcome.result l.outcomes.items at l.invariant.grown l.invariant.place
-          c.outputs.ensures.count room (kept ∙ held) l.invariant.rest is l.invariant.each k j o j_at
+          c.outputs.ensures.outputs room (kept ∙ held) l.invariant.rest is l.invariant.each k j o j_at
           (rw c.push_reserved.ensures.items at o_at));
       rest = rw size (rest_next jobs c.args.bits.now l.bits part l.i l.place n job.now
           c.outcome-outcome.result l.outcomes.items at l.invariant.grown l.invariant.place
-          c.outputs.ensures.count room (kept ∙ held) l.invariant.rest is l.invariant.each);
+          c.outputs.ensures.outputs room (kept ∙ held) l.invariant.rest is l.invariant.each);
     }

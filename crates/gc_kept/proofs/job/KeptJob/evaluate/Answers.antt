@@ -11,8 +11,8 @@ write_bits-requires c =
     omega (
       arith,
       c.in_ok-found.ensures.count,
-      c.outputs-outputs.ensures.count,
-      room,
       ap (λ (j : JobParts). output_wires j.circuit) c.borrowed.ensures,
+      c.outputs-outputs.ensures.outputs,
+      room,
       ap length c.deref.ensures.value,
     )

@@ -6,11 +6,12 @@ use Rattle.gc_kept.proofs.job.KeptJob.output_labels.Goals as goal
 
 pub write_labels-requires : goal.write_labels-requires
 write_labels-requires c =
+    let count = length-outputs-of 0 _ _ _ c.in-Ok.labels.items c.in-Ok.ensures in
     omega (
       arith,
-      c.in_ok-has_room.ensures.ok,
-      length-outputs-of 0 _ _ _ c.in-Ok.labels.items c.in-Ok.ensures,
-      c.outputs.ensures.count,
-      ap length c.deref.ensures.value,
+      count,
       ap (λ (j : JobParts). output_wires j.circuit) c.borrowed.ensures,
+      c.outputs.ensures.outputs,
+      ap length c.deref.ensures.value,
+      c.in_ok-has_room.ensures.ok,
     )
