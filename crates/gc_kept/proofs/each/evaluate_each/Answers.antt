@@ -1,6 +1,5 @@
-use Rattle.std.proofs.Common.{◌≡◌, ◌+◌, ◌-◌, ◌<◌, ◌≤◌, [], ◌∷◌, length, map, take, drop, refl, sym, ap, ◌∙◌, arith}
+use Rattle.std.proofs.Common.{◌≡◌, ◌+◌, ◌-◌, ◌≤◌, [], ◌∷◌, length, map, take, drop, ◌∙◌, arith}
 use Rattle.std.proofs.lemmas.List.{length-append, length-drop, length-set, length-take-le}
-use Rattle.gc_job.specs.Job.{JobParts}
 use Rattle.gc_kept.proofs.EachLemmas.{known_set, outcome_next, rest_next}
 use Rattle.gc_kept.proofs.JobsLemmas.{job_at, outputs_next, outputs_within}
 use Rattle.gc_kept.proofs.each.evaluate_each.Goals as goal

@@ -1,4 +1,4 @@
-use Rattle.std.proofs.Common.{◌≡◌, ℕ, List, Result, length, map, take, drop, slice_get, Some}
+use Rattle.std.proofs.Common.{◌≡◌, ℕ, Result, length, map, take, drop, slice_get, Some}
 use Rattle.std.specs.Vec.{vec_len, vec_capacity}
 use Rattle.gc_job.specs.Job.{JobParts}
 use Rattle.gc_job.specs.Jobs.{AreKnown}

@@ -1,6 +1,5 @@
-use Rattle.std.proofs.Common.{◌≡◌, ◌≤◌, length, map, ap, sym, ◌∙◌, arith}
+use Rattle.std.proofs.Common.{length, map, ap, sym, ◌∙◌, arith}
 use Rattle.std.proofs.lemmas.List.{length-take-le}
-use Rattle.gc_kept.specs.Jobs.{outputs_of}
 use Rattle.gc_kept.proofs.JobsLemmas.{length-all}
 use Rattle.gc_kept.proofs.jobs.evaluate_list.Goals as goal
 

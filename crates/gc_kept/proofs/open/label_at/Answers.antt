@@ -1,4 +1,4 @@
-use Rattle.std.proofs.Common.{◌≡◌, ◌+◌, ◌-◌, ◌*◌, sym, arith}
+use Rattle.std.proofs.Common.{◌≡◌, ◌+◌, ◌-◌, ◌*◌, arith}
 use Rattle.gc_kept.proofs.OpenLemmas.{label_read}
 use Rattle.gc_kept.proofs.open.label_at.Goals as goal
 

@@ -1,9 +1,7 @@
-use Rattle.std.proofs.Common.{◌≡◌, ℕ, ◌+◌, ◌*◌, ◌++◌, ◌<◌, ◌≤◌, Some, length, map, take, drop, slice_get, refl, sym, ap, subst, ◌∙◌, arith}
+use Rattle.std.proofs.Common.{◌≡◌, ℕ, ◌*◌, Some, length, refl, sym, ap, subst, ◌∙◌, arith}
 use Rattle.std.specs.List.{slice_index}
 use Rattle.std.proofs.lemmas.List.{length-map}
 use Rattle.gc_netlist.specs.Circuit.{Netlist, IsLawful}
-use Rattle.gc_netlist.specs.Spelling.{bit_number}
-use Rattle.gc_label.specs.Label.{colour}
 use Rattle.gc_file.proofs.DealLemmas.{length-encoded_with}
 use Rattle.gc_kept.specs.Garbling.{GarblingWith}
 use Rattle.gc_kept.specs.Labels.{AreLabels, first_output_of}
