@@ -6,4 +6,6 @@ pub mod RoomLemmas
 mod PieceLemmas
 mod LabelFileLemmas
 mod ManyLemmas
+mod OpenLemmas
+mod EachLemmas
 mod GarblingsLemmas

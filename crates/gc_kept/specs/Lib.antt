@@ -5,6 +5,7 @@ pub mod Garbling
 pub mod LabelFiles
 pub mod Job
 pub mod Jobs
+pub mod Each
 pub mod Plain
 pub mod Version
 pub mod Files
@@ -12,3 +13,4 @@ pub mod Garblings
 pub mod Wires
 pub mod Audit
 pub mod Labels
+pub mod Opening

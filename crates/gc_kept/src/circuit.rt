@@ -1,15 +1,16 @@
 //! Circuits with their digests, which several may hold.
 
-ghost use Rattle.std.specs.Prelude.{◌≡◌, ◌<◌, ◌^◌, Some, slice_get, IfOk, IfErr};
+ghost use Rattle.std.specs.Prelude.{◌≡◌, ◌≢◌, ◌<◌, ◌^◌, Some, slice_get, IfOk, IfErr};
 ghost use Rattle.sha2.specs.Sha256.{sha256};
 ghost use Rattle.gc_netlist.specs.Circuit.{IsLawful};
 ghost use Rattle.gc_netlist.specs.Canon.{canonical_text};
 ghost use Rattle.gc_netlist.specs.Spelling.{Spells};
+ghost use Rattle.gc_circuit.specs.Arrays.{IsFound, text_of};
 ghost use Rattle.gc_depth.specs.Order.{IsOrdered};
 ghost use Rattle.gc_kept.specs.Circuit.{HasCircuitTextFault, HasNoValue};
 
 use crate::fault::KeptFault;
-use gc_circuit::Circuit;
+use gc_circuit::{Arrays, ArraysFault, Circuit, ReadFault};
 use gc_depth::order_by_depth;
 use gc_job::BindFault;
 use std::alloc::{AllocError, Global};
@@ -94,6 +95,17 @@ impl KeptCircuit {
         ensures fault { IfErr result (HasCircuitTextFault text.now) }
     {
         let circuit = Circuit::read(alloc, text)?;
+        let shared = Arc::new(alloc, Digested::new(circuit))?;
+        Ok(KeptCircuit { shared })
+    }
+
+    /// Makes a circuit of arrays, as [`Circuit::from_arrays`] does, and takes its digest.
+    pub fn from_arrays(alloc: Global, arrays: Arrays<'_>) -> Result<KeptCircuit, ArraysFault>
+        ensures ok { IfOk result (λ c. IsLawful c × (canonical_text c ≡ text_of arrays.entry)) }
+        ensures fault { IfErr result (λ e. e.fault ≢ ReadFault.Memory
+            → IsFound (text_of arrays.entry) e.fault e.gate e.wire) }
+    {
+        let circuit = Circuit::from_arrays(alloc, arrays)?;
         let shared = Arc::new(alloc, Digested::new(circuit))?;
         Ok(KeptCircuit { shared })
     }

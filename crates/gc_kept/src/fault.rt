@@ -8,7 +8,7 @@ use gc_file::FileFault;
 use gc_job::{BindFault, EvalFault};
 use std::alloc::{AllocError, AllocFailed};
 
-/// Why a call has no result: a fault of the layers below, one that has the number of such a fault, or one of the four,
+/// Why a call has no result: a fault of the layers below, one that has the number of such a fault, or one of those,
 /// from 60 on, that only callers in other languages meet.
 #[derive(Clone, Copy, Debug, PartialEq, Eq)]
 pub enum KeptFault {
@@ -32,6 +32,8 @@ pub enum KeptFault {
     SmallBuffer,
     /// There is no memory for what is kept.
     Memory,
+    /// A label is neither of the two of its wire.
+    WrongLabel,
     /// Bytes that are read have another number than the call takes.
     WrongSize,
 }
@@ -55,6 +57,7 @@ impl KeptFault {
             KeptFault::BadArgument => 60,
             KeptFault::SmallBuffer => 61,
             KeptFault::Memory => 62,
+            KeptFault::WrongLabel => 63,
             KeptFault::WrongSize => 66,
         }
     }

@@ -29,7 +29,7 @@ pub fn evaluate_list(alloc: Global, jobs: &[&KeptJob], bits: &mut [u8]) -> Resul
 }
 
 /// Checks that a buffer has a byte for each output wire of these jobs.
-fn look_for_room(jobs: &[&KeptJob], buffer: &[u8]) -> Result<(), KeptFault>
+pub(crate) fn look_for_room(jobs: &[&KeptJob], buffer: &[u8]) -> Result<(), KeptFault>
     ensures ok { OnOk result (outputs_of (map (λ j. j.now) jobs.now) ≤ length buffer.now) }
     ensures fault { IfErr result
         (HasRoomFault (outputs_of (map (λ j. j.now) jobs.now)) (length buffer.now)) }
@@ -46,11 +46,12 @@ fn look_for_room(jobs: &[&KeptJob], buffer: &[u8]) -> Result<(), KeptFault>
 }
 
 /// For each job its output bits, where evaluating jobs side by side gives some.
-fn known_of(
+pub(crate) fn known_of(
     alloc: Global,
     jobs: &[&KeptJob],
 ) -> Result<Vec<Option<Vec<bool, Global>>, Global>, AllocError>
-    ensures { IfOk result (λ v. AreKnown (map (λ j. j.now) jobs.now) v.items) }
+    ensures count { IfOk result (λ v. length v.items ≡ length jobs.now) }
+    ensures known { IfOk result (λ v. AreKnown (map (λ j. j.now) jobs.now) v.items) }
 {
     let mut known = none_known(alloc, jobs.len())?;
     let mut next = 0;

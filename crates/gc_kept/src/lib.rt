@@ -9,6 +9,7 @@
 mod audit;
 mod bits;
 mod circuit;
+mod each;
 mod fault;
 mod files;
 mod from_labels;
@@ -21,6 +22,7 @@ mod label_bytes;
 mod label_file;
 mod label_files;
 mod many;
+mod open;
 mod plain;
 mod room;
 mod values;
@@ -29,6 +31,7 @@ mod wires;
 
 pub use bits::write_bits;
 pub use circuit::KeptCircuit;
+pub use each::evaluate_each;
 pub use fault::KeptFault;
 pub use from_labels::decode;
 pub use garbling::KeptGarbling;

@@ -22,7 +22,7 @@ use gc_label::Label;
 use std::alloc::Allocator;
 
 /// The first wire of the output value with this index. The caller ensures that there are at least as many values.
-fn first_output<A: Allocator>(circuit: &Circuit<A>, index: usize) -> u32
+pub(crate) fn first_output<A: Allocator>(circuit: &Circuit<A>, index: usize) -> u32
     requires { index ≤ length circuit.now.output_widths }
     ensures { result ≡ first_output_of circuit.now index }
 {
@@ -88,7 +88,7 @@ impl KeptGarbling {
     }
 
     /// The zero labels of `count` wires, from wire `from` on. The caller ensures that there are such wires.
-    fn zero_labels_from(&self, from: usize, count: usize) -> &[Label]
+    pub(crate) fn zero_labels_from(&self, from: usize, count: usize) -> &[Label]
         requires { from + count ≤ length self.now.garbling.zero_labels }
         ensures labels { result.now ≡ zero_labels_from self.now from count }
         ensures count { length result.now ≡ count }

@@ -1,5 +1,7 @@
 pub mod Answers
+pub mod Arrays
 pub mod Behind
+pub mod Each
 pub mod Borrowing
 pub mod Holding
 pub mod LabelsReports

@@ -26,7 +26,7 @@ fn job_of(borrow: &Borrow<Held>) -> Result<&KeptJob, i32>
 }
 
 /// The jobs that these handles hold, or else the code of the first that holds none.
-fn jobs_of(alloc: Global, borrows: &[Borrow<Held>]) -> Result<Vec<&KeptJob, Global>, i32>
+pub(crate) fn jobs_of(alloc: Global, borrows: &[Borrow<Held>]) -> Result<Vec<&KeptJob, Global>, i32>
     ensures ok { IfOk result (λ jobs.
         map (λ b. b.value) borrows.now
         ≡ map (λ j. Some (held.Job j)) (map (λ j. j.now) jobs.items)) }

@@ -4,12 +4,14 @@
 //! pointer may be tested is C's condition, and holds of all that C can pass.
 #![tactic(auto)]
 
+mod arrays;
 mod audit;
 mod audit_labels;
 mod borrow;
 mod box_parts;
 mod circuit;
 mod code;
+mod each;
 mod files;
 mod from_labels;
 mod garbling;
@@ -22,6 +24,7 @@ mod locate;
 mod many;
 mod name;
 mod null;
+mod open;
 mod slot;
 mod values;
 mod wires;

@@ -1,0 +1,80 @@
+use Rattle.std.proofs.Common.{◌≡◌, ℕ, ◌*◌, Some, length, refl, sym, ap, subst, ◌∙◌, arith}
+use Rattle.std.specs.List.{slice_index}
+use Rattle.std.proofs.lemmas.List.{length-map}
+use Rattle.gc_netlist.specs.Circuit.{Netlist, IsLawful}
+use Rattle.gc_file.proofs.DealLemmas.{length-encoded_with}
+use Rattle.gc_kept.specs.Garbling.{GarblingWith}
+use Rattle.gc_kept.specs.Labels.{AreLabels, first_output_of}
+use Rattle.gc_kept.proofs.LabelFileLemmas.{output-fits}
+use Rattle.gc_kept.proofs.OpenLemmas.{encoded_among, labels_spelled, length-are, wrong_among}
+use Rattle.gc_kept.proofs.garbling.KeptGarbling.open.Goals as goal
+
+-- The first wire of an output value, by equal circuits.
+first_is : (index from : ℕ) (n m k : Netlist) → from ≡ first_output_of n index → n ≡ m → m ≡ k
+    → from ≡ first_output_of k index
+first_is index from n m k is same equal = is ∙ ap (λ c. first_output_of c index) (same ∙ equal)
+
+pub zero_labels_from-zero_labels-requires : goal.zero_labels_from-zero_labels-requires
+zero_labels_from-zero_labels-requires c =
+    let g = c.args.self.now in
+    let lawful : IsLawful g.circuit = rw c.circuit-2.ensures at c.circuit-3.ensures.lawful in
+    let from = first_is c.args.index _ _ _ _ c.first_output-from.ensures c.circuit-3.ensures.same
+    c.circuit-2.ensures in
+    let at = rw c.circuit.ensures at c.in_ok-width.ensures.ok in
+    rw from (output-fits g.circuit lawful g.garbling c.law_garbled.ensures.wires c.args.index
+    c.in_ok-width.width at)
+
+pub returns-then-not-are_right-clause-fault : goal.returns-then-not-are_right-clause-fault
+returns-then-not-are_right-clause-fault c =
+    let g = c.args.self.now in
+    let bytes = c.args.labels.now in
+    let width = c.in_ok-width.width in
+    let zeros = c.zero_labels_from-zero_labels in
+    let from = first_is c.args.index _ _ _ _ c.first_output-from.ensures c.circuit-3.ensures.same
+    c.circuit-2.ensures in
+    let at = rw c.circuit.ensures at c.in_ok-width.ensures.ok in
+    let long : length bytes ≡ 16 * width =
+    c.if-labels-zero_labels.false ∙ ap (λ n. 16 * n) zeros.ensures.count in
+    let active = labels_spelled bytes width long (λ i. omega (arith, c.type_inv.labels i)) in
+    let offset = ap (λ (g : GarblingWith). g.offset) c.self.view_is in
+    let wrong = rw offset at (c.are_right.ensures.wrong c.if-not-are_right.true active.0 active.1) in (
+      width,
+      at,
+      long,
+      c.in_ok-has_room.ensures.ok,
+      rw (← from) (wrong_among g.offset g.garbling.zero_labels zeros.result.now
+          c.first_output-from.result width bytes zeros.ensures.labels long wrong),
+    )
+
+pub returns-clause-ok : goal.returns-clause-ok
+returns-clause-ok c =
+    let g = c.args.self.now in
+    let bytes = c.args.labels.now in
+    let width = c.in_ok-width.width in
+    let zeros = c.zero_labels_from-zero_labels in
+    let from = first_is c.args.index _ _ _ _ c.first_output-from.ensures c.circuit-3.ensures.same
+    c.circuit-2.ensures in
+    let at = rw c.circuit.ensures at c.in_ok-width.ensures.ok in
+    let long : length bytes ≡ 16 * width =
+    c.if-labels-zero_labels.false ∙ ap (λ n. 16 * n) zeros.ensures.count in
+    let active = labels_spelled bytes width long (λ i. omega (arith, c.type_inv.labels i)) in
+    let offset = ap (λ (g : GarblingWith). g.offset) c.self.view_is in
+    let found = rw offset at (c.are_right.ensures.right c.if-not-are_right.false active.0 active.1) in
+    let bits = found.0 in
+    let count : length bits ≡ width = omega (
+      arith,
+      length-are bytes active.0 active.1,
+      long,
+      ap length found.1,
+      length-encoded_with g.offset (slice_index zeros.result.now) 0 bits,
+    ) in
+    let are = subst (AreLabels bytes) found.1 active.1 in
+    let put = c.put_bits.ensures g.offset bits c.law_coloured.ensures are in
+    let moved = encoded_among g.offset g.garbling.zero_labels zeros.result.now
+    c.first_output-from.result bits (rw count zeros.ensures.labels) in
+    record {
+      bits = bits;
+      width = at ∙ ap Some (sym count);
+      labels_are = rw (← from) (subst (AreLabels bytes) moved are);
+      buffer = rw (put, length-map, count) refl;
+    }
