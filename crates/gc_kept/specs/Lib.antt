@@ -12,3 +12,6 @@ pub mod Garblings
 pub mod Wires
 pub mod Audit
 pub mod Labels
+pub mod Garbler
+pub mod Evaluator
+pub mod Ranges

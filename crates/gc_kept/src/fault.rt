@@ -8,7 +8,7 @@ use gc_file::FileFault;
 use gc_job::{BindFault, EvalFault};
 use std::alloc::{AllocError, AllocFailed};
 
-/// Why a call has no result: a fault of the layers below, one that has the number of such a fault, or one of the four,
+/// Why a call has no result: a fault of the layers below, one that has the number of such a fault, or one of the five,
 /// from 60 on, that only callers in other languages meet.
 #[derive(Clone, Copy, Debug, PartialEq, Eq)]
 pub enum KeptFault {
@@ -34,6 +34,8 @@ pub enum KeptFault {
     Memory,
     /// Bytes that are read have another number than the call takes.
     WrongSize,
+    /// Row pairs are left to be made, or to be used.
+    Unfinished,
 }
 
 impl KeptFault {
@@ -42,7 +44,7 @@ impl KeptFault {
     pub fn code(self) -> u32
         ensures code { result ≡ code_of self }
         ensures some { 0 < result }
-        ensures few { result < 67 }
+        ensures few { result < 68 }
     {
         match self {
             KeptFault::Circuit(fault) => fault.code(),
@@ -56,6 +58,7 @@ impl KeptFault {
             KeptFault::SmallBuffer => 61,
             KeptFault::Memory => 62,
             KeptFault::WrongSize => 66,
+            KeptFault::Unfinished => 67,
         }
     }
 }

@@ -3,17 +3,22 @@
 //!
 //! A [`KeptCircuit`] has its digest with it. A [`KeptGarbling`] and a [`KeptJob`] share their circuit. A garbling is
 //! made under a seed, or from an offset and labels of the caller's; circuits that follow one another are garbled and
-//! evaluated from labels to labels.
+//! evaluated from labels to labels. A [`KeptGarbler`] gives its row pairs in pieces, and a [`KeptEvaluator`] takes them so.
 #![tactic(auto)]
 
 mod audit;
 mod bits;
+mod both;
+mod chunk;
 mod circuit;
+mod evaluator;
 mod fault;
 mod files;
 mod from_labels;
+mod garbler;
 mod garbling;
 mod garblings;
+mod given;
 mod held;
 mod job;
 mod jobs;
@@ -22,14 +27,17 @@ mod label_file;
 mod label_files;
 mod many;
 mod plain;
+mod ranges;
 mod values;
 mod version;
 mod wires;
 
 pub use bits::write_bits;
 pub use circuit::KeptCircuit;
+pub use evaluator::KeptEvaluator;
 pub use fault::KeptFault;
 pub use from_labels::decode;
+pub use garbler::KeptGarbler;
 pub use garbling::KeptGarbling;
 pub use garblings::write_many;
 pub use held::Held;

@@ -11,12 +11,12 @@ ghost use Rattle.gc_kept.specs.Files.{IsFileAt, HasRoomFault};
 ghost use Rattle.gc_kept.specs.Labels.{AreValueLabels, HasValueLabelsFault, first_output_of, zero_labels_from};
 
 use crate::bits::bit_byte;
+use crate::both::write_both;
 use crate::fault::KeptFault;
 use crate::garbling::KeptGarbling;
-use crate::label_bytes::{has_room, write_labels, write_rows, write_sums};
+use crate::label_bytes::has_room;
 use gc_circuit::Circuit;
 use gc_file::first_wire;
-use gc_file::sizes::{LABEL, PAIR};
 use gc_job::BindFault;
 use std::alloc::{Allocator, Global};
 
@@ -30,7 +30,7 @@ fn first_output<A: Allocator>(circuit: &Circuit<A>, index: usize) -> u32
 }
 
 /// The sum of these widths.
-fn sum_of(widths: &[u32]) -> u32
+pub(crate) fn sum_of(widths: &[u32]) -> u32
     requires { sum widths.now < 2 ^ 32 }
     ensures { result ≡ sum widths.now }
 {
@@ -102,11 +102,7 @@ impl KeptGarbling {
         ensures one_unwritten { OnErr result (one.new ≡ one.old) }
     {
         let labels = &self.garbling.zero_labels()[from..from + count];
-        has_room(LABEL * count, zero)?;
-        has_room(LABEL * count, one)?;
-        write_labels(labels, zero);
-        write_sums(labels, self.offset.label(), one);
-        Ok(())
+        write_both(labels, self.offset, zero, one)
     }
 
     /// Writes the row pairs, 32 bytes for each AND gate in file order, to the front of a buffer: the generator's row,
@@ -118,10 +114,8 @@ impl KeptGarbling {
             (HasRoomFault (32 * length self.now.garbling.rows) (length buffer.old)) }
         ensures unwritten { OnErr result (buffer.new ≡ buffer.old) }
     {
-        let rows = self.garbling.rows();
-        has_room(PAIR * rows.len(), buffer)?;
-        write_rows(rows, buffer);
-        Ok(())
+        self.law_garbled();
+        self.rows_range(0, self.circuit.circuit().and_count(), buffer)
     }
 
     /// Writes the decode bits, a byte for each output wire in order, to the front of a buffer. It refuses a buffer
