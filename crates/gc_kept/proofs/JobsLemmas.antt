@@ -12,7 +12,7 @@ use Rattle.gc_job.specs.Evaluate.{IsEvaluated}
 use Rattle.gc_job.proofs.OutputLemmas.{of-parts, to-parts}
 use Rattle.gc_job.specs.Job.{JobParts, IsWhole, job_of}
 use Rattle.gc_kept.specs.declared.fault.KeptFault.{KeptFault}
-use Rattle.gc_kept.specs.declared.fault.KeptFault.TheVariants.{Circuit, BadDigit, WrongLength, Garbling, File, Binding, Evaluation, BadArgument, SmallBuffer, Memory, WrongSize}
+use Rattle.gc_kept.specs.declared.fault.KeptFault.TheVariants.{Circuit, BadDigit, WrongLength, Garbling, File, Binding, Evaluation, BadArgument, SmallBuffer, Memory, WrongSize, Unfinished}
 use Rattle.gc_kept.specs.Jobs.{AreBitsAt, AreBitsOf, AreOnOneCircuit, HasFirstJobFault, HasJobListFault, IsEvaluatedTo, outputs_of}
 use Rattle.gc_kept.proofs.ManyLemmas.{all_more}
 
@@ -129,3 +129,4 @@ module _ (jobs : List JobParts) where
   list_fault room SmallBuffer fits is = absurd is
   list_fault room Memory fits is = (fits, is)
   list_fault room WrongSize fits is = (fits, is)
+  list_fault room Unfinished fits is = (fits, is)

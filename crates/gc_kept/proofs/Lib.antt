@@ -8,3 +8,5 @@ mod PieceLemmas
 mod LabelFileLemmas
 mod ManyLemmas
 mod GarblingsLemmas
+pub mod StreamingLemmas
+pub mod GarblerLemmas

@@ -39,16 +39,20 @@ HasBeginFault c first labels _ = ⊥
 abbrev pub IsUsed : EvaluatorWith → Type 0
 IsUsed e = e.evaluator.used ≡ and_count e.circuit
 
--- The evaluator uses the row pairs that are whole in these bytes: they have `taken` bytes, and as many row pairs were left.
-pub record UsesPiece (old new : EvaluatorWith) (bytes : List ℕ) (taken : ℕ) : Type 0 where
+-- The evaluator uses the row pairs that these bytes are. As many were left.
+pub record UsesRows (old new : EvaluatorWith) (bytes : List ℕ) : Type 0 where
   pub circuit : new.circuit ≡ old.circuit
   pub first : new.evaluator.first ≡ old.evaluator.first
-  pub whole : taken ≡ 32 * (length bytes / 32)
   pub piece : List RowPair
-  pub piece_is : AreRows (take taken bytes) piece
+  pub piece_is : AreRows bytes piece
   pub evaluated : EvaluatesPiece old.circuit old.evaluator piece new.evaluator
   pub used : new.evaluator.used ≡ old.evaluator.used + length piece
   pub left : new.evaluator.used ≤ and_count new.circuit
+
+-- It uses the whole row pairs in these bytes, which are `taken` bytes at the front.
+pub record UsesWhole (old new : EvaluatorWith) (bytes : List ℕ) (taken : ℕ) : Type 0 where
+  pub whole : taken ≡ 32 * (length bytes / 32)
+  pub uses : UsesRows old new (take taken bytes)
 
 -- The fault of bytes that come: they have more row pairs than are left.
 abbrev pub HasFeedFault : EvaluatorWith → ℕ → KeptFault → Type 0

@@ -1,6 +1,6 @@
 //! Both labels of wires.
 
-ghost use Rattle.std.specs.Prelude.{◌≡◌, ◌*◌, ◌<◌, ◌⊎◌, length, map, OnOk, OnErr, IfErr};
+ghost use Rattle.std.specs.Prelude.{◌≡◌, ◌+◌, ◌*◌, ◌<◌, ◌≤◌, ◌⊎◌, length, map, take, drop, OnOk, OnErr, IfErr};
 ghost use Rattle.gc_netlist.specs.Spelling.{bit_number};
 ghost use Rattle.gc_label.specs.Label.{colour};
 ghost use Rattle.gc_kept.specs.Garbler.{AreBoth};
@@ -10,6 +10,14 @@ use crate::fault::KeptFault;
 use crate::label_bytes::{has_room, write_labels, write_sums};
 use gc_file::sizes::LABEL;
 use gc_label::{Label, Offset};
+
+/// The labels of `count` wires from wire `from` on. The caller ensures that there are such wires.
+pub(crate) fn labels_of(labels: &[Label], from: usize, count: usize) -> &[Label]
+    requires { from + count ≤ length labels.now }
+    ensures { result.now ≡ take count (drop from labels.now) }
+{
+    &labels[from..from + count]
+}
 
 /// Writes both labels of wires, which have these zero labels, to the front of two buffers: the zero labels, and the
 /// labels that stand for 1. It refuses a buffer that is too small (61).

@@ -1,8 +1,9 @@
 //! Evaluating in pieces: row pairs are used as they come.
 
 ghost use Rattle.std.specs.Prelude.{◌≡◌, ◌+◌, ◌*◌, ◌/◌, ◌%◌, ◌^◌, ◌<◌, ◌≤◌, length, min, take, IfOk, IfErr, OnOk, OnErr};
-ghost use Rattle.gc_netlist.specs.Circuit.{and_count, input_wires};
-ghost use Rattle.gc_kept.specs.Evaluator.{IsBegunOn, HasBeginFault, UsesPiece, HasFeedFault, AreFoundLabels, HasFoundFault};
+ghost use Rattle.gc_netlist.specs.Circuit.{and_count, input_wires, output_wires};
+ghost use Rattle.gc_job.specs.declared.fault.EvalFault.TheVariants as eval;
+ghost use Rattle.gc_kept.specs.Evaluator.{IsBegunOn, HasBeginFault, UsesRows, UsesWhole, HasFeedFault, IsUsed, AreFoundLabels, HasFoundFault};
 
 use crate::chunk::{CHUNK, NO_ROWS};
 use crate::circuit::KeptCircuit;
@@ -67,7 +68,7 @@ impl KeptCircuit {
         requires labels { length labels.now ≡ 16 * input_wires self.now }
         requires numbers { first + and_count self.now ≤ 2 ^ 62 }
         ensures ok { IfOk result (IsBegunOn self.now first labels.now) }
-        ensures fault { IfErr result (λ fault. fault ≡ KeptFault.Evaluation EvalFault.Memory) }
+        ensures fault { IfErr result (λ fault. fault ≡ KeptFault.Evaluation eval.Memory) }
     {
         let Ok(labels) = labels_from_bytes(alloc, labels) else {
             return Err(NO_MEMORY);
@@ -87,7 +88,7 @@ impl KeptEvaluator {
     /// pair at the end is left for the next call. Nothing of them is trusted. It refuses more row pairs than are left
     /// (66), and doesn't allocate.
     pub fn feed(&mut self, bytes: &[u8]) -> Result<usize, KeptFault>
-        ensures ok { IfOk result (UsesPiece self.old self.new bytes.now) }
+        ensures ok { IfOk result (UsesWhole self.old self.new bytes.now) }
         ensures fault { IfErr result (HasFeedFault self.old (length bytes.now)) }
         ensures kept { OnErr result (self.new ≡ self.old) }
     {
@@ -95,23 +96,22 @@ impl KeptEvaluator {
         if count > self.evaluator.left(self.circuit.circuit()) as usize {
             return Err(KeptFault::WrongSize);
         }
-        Ok(self.use_rows(&bytes[..PAIR * count]))
+        self.use_rows(&bytes[..PAIR * count]);
+        Ok(PAIR * count)
     }
 
-    /// Uses the row pairs that come next. It returns how many bytes they have. The caller ensures that they are whole,
-    /// and that as many are left.
-    pub(crate) fn use_rows(&mut self, bytes: &[u8]) -> usize
+    /// Uses the row pairs that come next. The caller ensures that they are whole, and that as many are left.
+    pub(crate) fn use_rows(&mut self, bytes: &[u8])
         requires whole { length bytes.now % 32 ≡ 0 }
         requires left { self.old.evaluator.used + length bytes.now / 32
             ≤ and_count self.old.circuit }
-        ensures uses { UsesPiece self.old self.new bytes.now result }
+        ensures { UsesRows self.old self.new bytes.now }
     {
         let mut rows = [NO_ROWS; CHUNK];
-        let mut taken = 0;
-        while taken < bytes.len() {
-            taken += self.use_some(&mut rows, &bytes[taken..]);
+        let mut used = 0;
+        while used < bytes.len() {
+            used += self.use_some(&mut rows, &bytes[used..]);
         }
-        taken
     }
 
     /// Uses the first of these row pairs, as many as there are places for them, and returns how many bytes they have.
@@ -119,13 +119,12 @@ impl KeptEvaluator {
     fn use_some(&mut self, rows: &mut [RowPair], bytes: &[u8]) -> usize
         requires left { self.old.evaluator.used + length bytes.now / 32
             ≤ and_count self.old.circuit }
-        ensures uses { UsesPiece self.old self.new (take result bytes.now) result }
+        ensures uses { UsesRows self.old self.new (take result bytes.now) }
         ensures most { result ≡ 32 * min (length rows.old) (length bytes.now / 32) }
     {
         let count = rows.len().min(bytes.len() / PAIR);
-        let rows = &mut rows[..count];
-        read_rows(&bytes[..PAIR * count], rows);
-        self.evaluator.feed(self.circuit.circuit(), rows);
+        read_rows(&bytes[..PAIR * count], &mut rows[..count]);
+        self.evaluator.feed(self.circuit.circuit(), &rows[..count]);
         PAIR * count
     }
 
@@ -140,9 +139,19 @@ impl KeptEvaluator {
         if !self.evaluator.is_whole(circuit) {
             return Err(KeptFault::Unfinished);
         }
-        let labels = self.evaluator.output_labels(circuit);
-        has_room(LABEL * labels.len(), outputs)?;
-        write_labels(labels, outputs);
+        has_room(LABEL * circuit.output_wires() as usize, outputs)?;
+        self.write_labels(outputs);
         Ok(())
+    }
+
+    /// Writes the active labels of the output wires to the front of a buffer. The caller ensures that no row pairs are
+    /// left, and that there is room.
+    pub(crate) fn write_labels(&self, outputs: &mut [u8])
+        requires whole { IsUsed self.now }
+        requires room { 16 * output_wires self.now.circuit ≤ length outputs.old }
+        ensures { AreFoundLabels self.now outputs.old outputs.new }
+    {
+        let labels = self.evaluator.output_labels(self.circuit.circuit());
+        write_labels(labels, outputs);
     }
 }

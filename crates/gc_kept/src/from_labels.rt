@@ -18,10 +18,10 @@ pub(crate) const NO_MEMORY: KeptFault = KeptFault::Evaluation(EvalFault::Memory)
 
 impl KeptCircuit {
     /// Evaluates row pairs, 32 bytes for each AND gate, and an active label for each input wire, 16 bytes each, as
-    /// [`evaluate_labels`](gc_half::evaluate_labels) does, and writes the active labels of the output wires to the front of a buffer. AND gates
-    /// are numbered from `first` on. Nothing of the rows and the labels is trusted. It refuses other numbers of bytes
-    /// (66), then a first AND gate whose sum with the number of AND gates is above 2^62 (60), and then a buffer that
-    /// is too small (61).
+    /// [`evaluate_labels`](gc_half::evaluate_labels) does, and writes the active labels of the output wires to the
+    /// front of a buffer. AND gates are numbered from `first` on. Nothing of the rows and the labels is trusted. It
+    /// refuses other numbers of bytes (66), then a first AND gate whose sum with the number of AND gates is above 2^62
+    /// (60), and then a buffer that is too small (61).
     pub fn evaluate_labels(
         &self,
         alloc: Global,
@@ -49,7 +49,8 @@ impl KeptCircuit {
         has_room(LABEL * circuit.output_wires() as usize, outputs)?;
         let mut evaluator = self.evaluator_on(alloc, first, labels)?;
         evaluator.use_rows(rows);
-        evaluator.output_labels(outputs)
+        evaluator.write_labels(outputs);
+        Ok(())
     }
 }
 

@@ -8,7 +8,7 @@ ghost use Rattle.gc_kept.specs.Garbler.{IsBegunUnder, IsBegunFrom, MakesPiece, I
 ghost use Rattle.gc_kept.specs.Garbler.{AreGivenLabels, AreMadeLabels, HasMadeLabelsFault, AreMadeBits, HasMadeBitsFault};
 ghost use Rattle.gc_kept.specs.Labels.{HasFromLabelsFault, HasValueLabelsFault};
 
-use crate::both::{put_colours, write_both};
+use crate::both::{labels_of, put_colours, write_both};
 use crate::chunk::{CHUNK, NO_ROWS};
 use crate::circuit::KeptCircuit;
 use crate::fault::KeptFault;
@@ -128,8 +128,7 @@ impl KeptGarbler {
             (and_count self.old.circuit - self.old.garbler.made) }
     {
         let most = rows.len().min(buffer.len() / PAIR);
-        let rows = &mut rows[..most];
-        let made = self.garbler.next(self.circuit.circuit(), rows) as usize;
+        let made = self.garbler.next(self.circuit.circuit(), &mut rows[..most]) as usize;
         write_rows(&rows[..made], buffer);
         PAIR * made
     }
@@ -156,7 +155,7 @@ impl KeptGarbler {
             return Err(KeptFault::Binding(BindFault::NoSuchValue));
         };
         let from = first_wire(circuit, index as usize) as usize;
-        let labels = &self.garbler.zero_labels()[from..from + *width as usize];
+        let labels = labels_of(self.garbler.zero_labels(), from, *width as usize);
         write_both(labels, self.garbler.offset(), zero, one)
     }
 
@@ -186,7 +185,8 @@ impl KeptGarbler {
         };
         circuit.law_lawful();
         let from = sum_of(&widths[..index as usize]) as usize;
-        let labels = &self.garbler.output_zero_labels(circuit)[from..from + *width as usize];
+        let outputs = self.garbler.output_zero_labels(circuit);
+        let labels = labels_of(outputs, from, *width as usize);
         write_both(labels, self.garbler.offset(), zero, one)
     }
 

@@ -11,7 +11,7 @@ ghost use Rattle.gc_kept.specs.Files.{IsFileAt, HasRoomFault};
 ghost use Rattle.gc_kept.specs.Labels.{AreValueLabels, HasValueLabelsFault, first_output_of, zero_labels_from};
 
 use crate::bits::bit_byte;
-use crate::both::write_both;
+use crate::both::{labels_of, write_both};
 use crate::fault::KeptFault;
 use crate::garbling::KeptGarbling;
 use crate::label_bytes::has_room;
@@ -101,7 +101,7 @@ impl KeptGarbling {
         ensures zero_unwritten { OnErr result (zero.new ≡ zero.old) }
         ensures one_unwritten { OnErr result (one.new ≡ one.old) }
     {
-        let labels = &self.garbling.zero_labels()[from..from + count];
+        let labels = labels_of(self.garbling.zero_labels(), from, count);
         write_both(labels, self.offset, zero, one)
     }
 
