@@ -1,8 +1,9 @@
 -- Garblings and evaluations in progress that are handed out, and that a call changes.
-use Rattle.std.specs.Prelude.{ℕ, List}
+use Rattle.std.specs.Prelude.{◌≡◌, ℕ, List, Option, Some}
 use Rattle.gc_netlist.specs.Circuit.{Netlist}
 use Rattle.gc_kept.specs.Garbler.{GarblerWith, IsBegunUnder, IsBegunFrom, IsNextPiece}
-use Rattle.gc_kept.specs.Evaluator.{EvaluatorWith, IsBegunOn, UsesPiece}
+use Rattle.gc_kept.specs.Evaluator.{EvaluatorWith, IsBegunOn, UsesWhole}
+use Rattle.gc_kept.specs.declared.held.Held.{Held}
 use Rattle.gc_kept.specs.declared.held.Held.TheVariants.{Garbler, Evaluator}
 use Rattle.halfgates_c.specs.declared.slot.Slot.{Slot}
 use Rattle.halfgates_c.specs.Holding.{Holds}
@@ -20,12 +21,12 @@ pub record HoldsBegunFrom (c : Netlist) (offset zero_labels : List ℕ) (first :
   pub begun : IsBegunFrom c offset zero_labels first garbler
   pub holds : Holds slot (Garbler garbler)
 
--- It is to a handle of this garbler after its next piece, and a buffer begins with the piece's bytes.
-pub record HoldsNext (g : GarblerWith) (slot : Slot) (before after : List ℕ) (written : ℕ)
+-- What is held is this garbler after its next piece, and a buffer begins with the piece's bytes.
+pub record HoldsNext (g : GarblerWith) (held : Option Held) (before after : List ℕ) (written : ℕ)
     : Type 0 where
   pub garbler : GarblerWith
   pub next : IsNextPiece g garbler before after written
-  pub holds : Holds slot (Garbler garbler)
+  pub holds : held ≡ Some (Garbler garbler)
 
 -- C's pointer is to a handle of an evaluator that has begun to evaluate the circuit on these labels, its AND gates
 -- numbered from `first` on.
@@ -34,8 +35,9 @@ pub record HoldsBegunOn (c : Netlist) (first : ℕ) (labels : List ℕ) (slot : 
   pub begun : IsBegunOn c first labels evaluator
   pub holds : Holds slot (Evaluator evaluator)
 
--- It is to a handle of this evaluator after the row pairs that are whole in these bytes.
-pub record HoldsFed (e : EvaluatorWith) (slot : Slot) (bytes : List ℕ) (taken : ℕ) : Type 0 where
+-- What is held is this evaluator after the whole row pairs in these bytes.
+pub record HoldsFed (e : EvaluatorWith) (held : Option Held) (bytes : List ℕ) (taken : ℕ)
+    : Type 0 where
   pub evaluator : EvaluatorWith
-  pub fed : UsesPiece e evaluator bytes taken
-  pub holds : Holds slot (Evaluator evaluator)
+  pub fed : UsesWhole e evaluator bytes taken
+  pub holds : held ≡ Some (Evaluator evaluator)

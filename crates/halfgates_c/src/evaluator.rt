@@ -3,8 +3,7 @@
 ghost use Rattle.std.specs.Prelude.{◌≡◌, ◌≢◌, Some, OnOk, OnErr, IfErr, length, pos};
 ghost use Rattle.core.specs.Ptr.{as_mut_ptr};
 ghost use denote.RawPtr.{Testable};
-ghost use Rattle.gc_kept.specs.Evaluator.{EvaluatorWith, HasBeginFault, UsesPiece, HasFeedFault, AreFoundLabels, HasFoundFault};
-ghost use Rattle.gc_kept.specs.declared.held.Held.TheVariants as held;
+ghost use Rattle.gc_kept.specs.Evaluator.{HasBeginFault, UsesWhole, HasFeedFault, AreFoundLabels, HasFoundFault};
 ghost use Rattle.halfgates_c.specs.Answers.{Answers};
 ghost use Rattle.halfgates_c.specs.Holding.{OfCircuit, OfEvaluator};
 ghost use Rattle.halfgates_c.specs.InProgress.{HoldsBegunOn, HoldsFed};
@@ -64,7 +63,7 @@ pub extern "C" fn halfgates_evaluator_free(evaluator: Slot) {
 
 /// Uses the whole row pairs in these bytes, and writes how many bytes they have.
 fn feed(evaluator: &mut KeptEvaluator, rows: &[u8], taken: &mut usize) -> Result<(), KeptFault>
-    ensures ok { OnOk result (UsesPiece evaluator.old evaluator.new rows.now taken.new) }
+    ensures ok { OnOk result (UsesWhole evaluator.old evaluator.new rows.now taken.new) }
     ensures fault { IfErr result (HasFeedFault evaluator.old (length rows.now)) }
     ensures kept { OnErr result (evaluator.new ≡ evaluator.old) }
     ensures unreported { OnErr result (taken.new ≡ taken.old) }
@@ -76,7 +75,7 @@ fn feed(evaluator: &mut KeptEvaluator, rows: &[u8], taken: &mut usize) -> Result
 /// Uses the whole row pairs in these bytes, if what is held is an evaluator.
 fn feed_to(held: &mut Held, rows: &[u8], taken: &mut usize) -> i32
     ensures answer { OfEvaluator (Some held.old) result (λ e. Answers result
-        ((new : EvaluatorWith) × (held.new ≡ held.Evaluator new) × UsesPiece e new rows.now taken.new)
+        (HoldsFed e (Some held.new) rows.now taken.new)
         (HasFeedFault e (length rows.now))) }
     ensures kept { result ≢ pos 0 → held.new ≡ held.old }
     ensures unreported { result ≢ pos 0 → taken.new ≡ taken.old }
@@ -90,13 +89,14 @@ fn feed_to(held: &mut Held, rows: &[u8], taken: &mut usize) -> i32
 /// Evaluates on, with the row pairs that come next.
 #[unsafe(no_mangle)]
 pub extern "C" fn halfgates_evaluator_feed(
+    alloc: Global,
     evaluator: &mut Slot,
     rows: &[u8],
     taken: &mut usize,
 ) -> i32
     requires taken { Testable (as_mut_ptr taken) }
     ensures answer { OfEvaluator evaluator.old.held result (λ e.
-        Answers result (HoldsFed e evaluator.new rows.now taken.new)
+        Answers result (HoldsFed e evaluator.new.held rows.now taken.new)
         (HasFeedFault e (length rows.now))) }
     ensures kept { result ≢ pos 0 → evaluator.new.held ≡ evaluator.old.held }
     ensures unreported { result ≢ pos 0 → taken.new ≡ taken.old }
@@ -104,7 +104,7 @@ pub extern "C" fn halfgates_evaluator_feed(
     if is_null(taken) {
         return NULL_POINTER;
     }
-    let Some(mut held) = evaluator.take() else {
+    let Some(mut held) = evaluator.take(alloc) else {
         return NULL_POINTER;
     };
     let code = feed_to(&mut held, rows, taken);

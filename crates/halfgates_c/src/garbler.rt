@@ -7,7 +7,6 @@ ghost use Rattle.gc_label.specs.Label.{bytes_of_label};
 ghost use Rattle.gc_kept.specs.Garbling.{IsWantOfMemory};
 ghost use Rattle.gc_kept.specs.Garbler.{IsNextPiece, HasPieceFault, AreGivenLabels, AreMadeLabels, HasMadeLabelsFault, AreMadeBits, HasMadeBitsFault};
 ghost use Rattle.gc_kept.specs.Labels.{HasFromLabelsFault, HasValueLabelsFault};
-ghost use Rattle.gc_kept.specs.declared.held.Held.TheVariants as held;
 ghost use Rattle.halfgates_c.specs.Answers.{Answers};
 ghost use Rattle.halfgates_c.specs.Holding.{OfCircuit, OfGarbler};
 ghost use Rattle.halfgates_c.specs.InProgress.{HoldsBegunUnder, HoldsBegunFrom, HoldsNext};
@@ -162,7 +161,7 @@ fn next(garbler: &mut KeptGarbler, rows: &mut [u8], written: &mut usize) -> Resu
 /// Writes the next row pairs of what is held, if it is a garbler.
 fn next_of(held: &mut Held, rows: &mut [u8], written: &mut usize) -> i32
     ensures answer { OfGarbler (Some held.old) result (λ g. Answers result
-        ((new : GarblerWith) × (held.new ≡ held.Garbler new) × IsNextPiece g new rows.old rows.new written.new)
+        (HoldsNext g (Some held.new) rows.old rows.new written.new)
         (HasPieceFault g (length rows.old))) }
     ensures kept { result ≢ pos 0 → held.new ≡ held.old }
     ensures unwritten { result ≢ pos 0 → rows.new ≡ rows.old }
@@ -177,13 +176,14 @@ fn next_of(held: &mut Held, rows: &mut [u8], written: &mut usize) -> i32
 /// Garbles on, and writes the row pairs that are made.
 #[unsafe(no_mangle)]
 pub extern "C" fn halfgates_garbler_next(
+    alloc: Global,
     garbler: &mut Slot,
     rows: &mut [u8],
     written: &mut usize,
 ) -> i32
     requires written { Testable (as_mut_ptr written) }
     ensures answer { OfGarbler garbler.old.held result (λ g.
-        Answers result (HoldsNext g garbler.new rows.old rows.new written.new)
+        Answers result (HoldsNext g garbler.new.held rows.old rows.new written.new)
         (HasPieceFault g (length rows.old))) }
     ensures kept { result ≢ pos 0 → garbler.new.held ≡ garbler.old.held }
     ensures unwritten { result ≢ pos 0 → rows.new ≡ rows.old }
@@ -192,7 +192,7 @@ pub extern "C" fn halfgates_garbler_next(
     if is_null(written) {
         return NULL_POINTER;
     }
-    let Some(mut held) = garbler.take() else {
+    let Some(mut held) = garbler.take(alloc) else {
         return NULL_POINTER;
     };
     let code = next_of(&mut held, rows, written);

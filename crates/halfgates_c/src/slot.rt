@@ -77,13 +77,12 @@ impl Slot {
     }
 
     /// Takes the box out, for the time of a call that changes what it holds, and leaves null. `put` gives it back.
-    pub(crate) fn take(&mut self) -> Option<Box<Held, Global>>
+    pub(crate) fn take(&mut self, alloc: Global) -> Option<Box<Held, Global>>
         ensures held { MatchOption result (self.old.held ≡ None)
             (λ held. self.old.held ≡ Some held.value) }
         ensures left { self.new.held ≡ None }
     {
-        let null = Slot::null(self.alloc);
-        let parts = mem::replace(self, null).into_parts()?;
+        let parts = mem::replace(self, Slot::null(alloc)).into_parts()?;
         Some(parts.into_box())
     }
 
