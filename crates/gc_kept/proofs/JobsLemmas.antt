@@ -1,13 +1,11 @@
 -- The bits of a list of jobs.
-use Rattle.std.proofs.Common.{◌≡◌, ℕ, ◌+◌, ◌<◌, ◌≤◌, Bool, List, [], ◌∷◌, ◌++◌, length, map, take, get_or, slice_get, flat_map, Option, Some, None, IfSome, Ok, Err, refl, sym, ◌∙◌, ap, subst, append-nil, arith}
-use Rattle.std.specs.List.{sum_by}
-use Rattle.std.proofs.lemmas.List.{length-append, length-map, take_all}
+use Rattle.std.proofs.Common.{◌≡◌, ℕ, ◌+◌, ◌<◌, ◌≤◌, Bool, List, [], ◌∷◌, ◌++◌, length, map, take, get_or, slice_get, Option, Some, None, IfSome, Ok, refl, sym, ◌∙◌, ap, subst, append-nil, arith}
+use Rattle.std.proofs.lemmas.List.{length-append, take_all}
 use Rattle.std.proofs.lemmas.List.Concat.{flat_map-append}
 use Rattle.std.proofs.lemmas.List.Sums.{sum_by_more, sum_by_more_le}
 use Rattle.std.proofs.lemmas.Option.{get_or_from_slice_get, same_Some, slice_get_read, slice_get_within, slice_get-map}
 use Rattle.gc_netlist.specs.Circuit.{Netlist, output_wires}
 use Rattle.gc_file.specs.GarbledFile.{GarbledParts}
-use Rattle.gc_job.specs.declared.fault.EvalFault.{EvalFault}
 use Rattle.gc_job.specs.Evaluate.{IsEvaluated}
 use Rattle.gc_job.proofs.OutputLemmas.{of-parts, to-parts}
 use Rattle.gc_job.specs.Job.{JobParts, IsWhole, job_of}

@@ -1,5 +1,5 @@
 -- Pieces that follow one another.
-use Rattle.std.proofs.Common.{◌≡◌, ℕ, ◌+◌, ◌-◌, ◌*◌, ◌≤◌, List, [], ◌++◌, length, map, take, drop, flat_map, refl, sym, ap, ◌∙◌, subst, append-nil, append_assoc, drop-drop, arith}
+use Rattle.std.proofs.Common.{◌≡◌, ℕ, ◌+◌, ◌-◌, ◌*◌, ◌≤◌, List, ◌++◌, length, take, drop, flat_map, sym, ap, ◌∙◌, subst, append-nil, append_assoc, drop-drop, arith}
 use Rattle.std.proofs.lemmas.List.{drop_all, length-append, length-drop, length-take-le, take_all}
 use Rattle.std.proofs.lemmas.List.Concat.{flat_map-append}
 use Rattle.std.proofs.lemmas.List.Elements.{All-append}
@@ -47,7 +47,7 @@ length-pairs rows = length-flat_map row_bytes 32 length-row_bytes rows
 
 -- One more piece is made, and its bytes are written after those before.
 module _ (a b d : GarblerWith) (old mid part : List ℕ) (done more : ℕ)
-    (one : MakesPiece a b old mid done) 
+    (one : MakesPiece a b old mid done)
     (two : MakesPiece b d (take (length mid - done) (drop done mid)) part more)
     (within : done ≤ length mid) where
   pieces-garbled : GarblesPiece a.circuit a.garbler (one.piece ++ two.piece) d.garbler

@@ -1,4 +1,4 @@
-use Rattle.std.proofs.Common.{◌≡◌, ◌∙◌, ◌+◌, ◌*◌, ◌<◌, length, refl, sym, ap, arith}
+use Rattle.std.proofs.Common.{◌+◌, ◌*◌, length, refl, sym, ap, arith}
 use Rattle.std.proofs.lemmas.List.{length-take-le}
 use Rattle.gc_audit.proofs.LabelsLemmas.{found_at}
 use Rattle.gc_kept.proofs.PieceLemmas.{length-labels, at_front}

@@ -1,4 +1,4 @@
-use Rattle.std.proofs.Common.{◌≡◌, ◌∙◌, length, take, drop, slice_get, Some, refl, ap, arith}
+use Rattle.std.proofs.Common.{◌≡◌, ◌∙◌, length, slice_get, Some, refl, ap, arith}
 use Rattle.gc_audit.proofs.LabelsLemmas.{found_at}
 use Rattle.gc_audit.specs.Labels.{first_wire_of}
 use Rattle.gc_kept.proofs.GarblerLemmas.{length-value, value-given}

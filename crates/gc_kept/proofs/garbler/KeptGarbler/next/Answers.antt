@@ -1,7 +1,6 @@
-use Rattle.std.proofs.Common.{◌≡◌, ◌≤◌, ◌∙◌, refl, ap, arith}
+use Rattle.std.proofs.Common.{◌≤◌, ◌∙◌, refl, ap, arith}
 use Rattle.gc_netlist.specs.Circuit.{and_count}
 use Rattle.gc_half.proofs.StreamingLemmas.{garbler-few}
-use Rattle.gc_kept.specs.Garbler.{GarblerWith}
 use Rattle.gc_kept.proofs.garbler.KeptGarbler.next.Goals.{else-buffer-lt-PAIR-via-then-buffer-lt-PAIR+else-not-is_whole, else-buffer-lt-PAIR-via-else-buffer-lt-PAIR}
 use Rattle.gc_kept.proofs.garbler.KeptGarbler.next.Goals as goal
 

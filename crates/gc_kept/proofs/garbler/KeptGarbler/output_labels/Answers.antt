@@ -1,4 +1,4 @@
-use Rattle.std.proofs.Common.{◌≡◌, ◌∙◌, length, take, drop, slice_get, Some, refl, ap, arith}
+use Rattle.std.proofs.Common.{◌≡◌, ◌∙◌, length, take, slice_get, Some, refl, ap, arith}
 use Rattle.std.specs.List.{sum}
 use Rattle.gc_audit.proofs.LabelsLemmas.{found_at}
 use Rattle.gc_netlist.specs.Circuit.{and_count, output_wires}

@@ -1,4 +1,4 @@
-use Rattle.std.proofs.Common.{◌≡◌, ◌+◌, ◌-◌, ◌≤◌, length, ap, subst, arith}
+use Rattle.std.proofs.Common.{◌-◌, length, ap, subst, arith}
 use borrow.Rule.Slice.PartMut.{put_mid}
 use Rattle.gc_netlist.specs.Circuit.{and_count}
 use Rattle.std.proofs.lemmas.List.{length-drop}

@@ -1,12 +1,10 @@
-use Rattle.std.proofs.Common.{◌≡◌, ◌∙◌, ◌+◌, ◌*◌, length, map, refl, sym, ap, arith}
+use Rattle.std.proofs.Common.{◌≡◌, ◌∙◌, ◌+◌, ◌*◌, length, refl, ap, arith}
 use Rattle.std.specs.List.{slice_index}
 use Rattle.std.proofs.lemmas.Bool.Decides.{nat_tests}
 use Rattle.std.proofs.lemmas.List.{length-take-le}
 use Rattle.std.proofs.lemmas.Result.{err_from_is_err_and}
-use Rattle.gc_netlist.specs.Spelling.{bit_number}
 use Rattle.gc_audit.proofs.LabelsLemmas.{found_at}
 use Rattle.gc_file.specs.LabelFile.{label_file, label_parts_with}
-use Rattle.gc_file.proofs.DealLemmas.{length-encoded_with}
 use Rattle.gc_kept.specs.Files.{no_value, of_bits, of_file}
 use Rattle.gc_kept.proofs.RoomLemmas.{lacks_room}
 use Rattle.gc_kept.proofs.PieceLemmas.{at_front}

@@ -1,4 +1,4 @@
-use Rattle.std.proofs.Common.{◌≡◌, ◌∙◌, refl, sym, ap}
+use Rattle.std.proofs.Common.{◌≡◌, ◌∙◌, refl, ap}
 use Rattle.gc_audit.proofs.LabelsLemmas.{found_at}
 use Rattle.gc_audit.specs.Labels.{first_wire_of}
 use Rattle.gc_kept.specs.Garbling.{GarblingWith}

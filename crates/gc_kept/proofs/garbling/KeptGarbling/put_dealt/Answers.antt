@@ -1,4 +1,4 @@
-use Rattle.std.proofs.Common.{◌≡◌, ◌∙◌, ◌++◌, length, take, refl, sym, ap, arith}
+use Rattle.std.proofs.Common.{◌∙◌, ◌++◌, length, take, sym, ap, arith}
 use Rattle.std.specs.List.{slice_index}
 use Rattle.gc_file.proofs.DealLemmas.{first_wire-room, length-encoded_with}
 use Rattle.gc_file.specs.LabelFile.{encoded_with}

@@ -1,4 +1,4 @@
-use Rattle.std.proofs.Common.{◌≡◌, ◌∙◌, IfSome, Ok, sym, ap, subst}
+use Rattle.std.proofs.Common.{◌∙◌, IfSome, Ok, sym, ap, subst}
 use Rattle.std.specs.Result.{result_map_both}
 use Rattle.gc_job.specs.Evaluate.{IsEvaluated}
 use Rattle.gc_job.specs.Job.{JobParts, IsWhole, job_of}
