@@ -1,6 +1,6 @@
 //! Pairs of labels, from pieces of their bytes.
 
-ghost use Rattle.std.specs.Prelude.{◌≡◌, ◌+◌, ◌*◌, ◌%◌, ◌<◌, ◌^◌, ℕ, List, [], ◌++◌, length, flat_map, All, OnOk, IfOk, IfErr};
+ghost use Rattle.std.specs.Prelude.{◌≡◌, ◌+◌, ◌*◌, ◌%◌, ◌<◌, ◌^◌, ℕ, List, [], ◌++◌, length, flat_map, All, OnOk, IfErr};
 ghost use Rattle.gc_label.specs.Label.{bytes_of_label};
 ghost use Rattle.gc_file.specs.GarbledFile.{IsLabel, IsRowPair, row_bytes};
 ghost use Rattle.gc_file.specs.LabelBytes.{bytes_by, AreLabels};
@@ -68,17 +68,16 @@ fn pair_from_bytes<P: LabelPair>(bytes: &[u8]) -> P
     P::from_labels(label_from_bytes(first), label_from_bytes(second))
 }
 
-/// The row pairs whose bytes these are, 32 bytes each: the generator's row, and then the evaluator's. It allocates
-/// once. The caller ensures that the bytes are those of whole row pairs.
-pub fn rows_from_bytes<A: Allocator>(alloc: A, bytes: &[u8]) -> Result<Vec<RowPair, A>, FileFault>
-    requires { length bytes.now % 32 ≡ 0 }
-    ensures bytes { IfOk result (λ v. flat_map row_bytes v.items ≡ bytes.now) }
-    ensures rows { IfOk result (λ v. All IsRowPair v.items) }
-    ensures memory { IfErr result (λ e. e ≡ FileFault.Memory) }
+/// Reads the row pairs whose bytes these are, 32 bytes each: the generator's row, and then the evaluator's. The caller
+/// ensures that there is a place for each.
+pub fn read_rows(bytes: &[u8], rows: &mut [RowPair])
+    requires { length bytes.now ≡ 32 * length rows.old }
+    ensures bytes { flat_map row_bytes rows.new ≡ bytes.now }
+    ensures rows { All IsRowPair rows.new }
 {
-    let mut rows = Vec::with_capacity(alloc, bytes.len() / PAIR)?;
-    push_pairs(&mut rows, bytes)?;
-    Ok(rows)
+    for i in 0..rows.len() {
+        rows[i] = pair_from_bytes(&bytes[PAIR * i..PAIR * i + PAIR]);
+    }
 }
 
 /// Pushes the pairs whose bytes these are.

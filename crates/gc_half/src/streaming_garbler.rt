@@ -175,6 +175,14 @@ impl<A: Allocator + Copy> StreamingGarbler<A> {
         self.made == circuit.and_count()
     }
 
+    /// The zero labels of all wires: of the input wires from the beginning on, and of any other once the gate that sets
+    /// it is garbled; before, 16 zero bytes.
+    pub fn zero_labels(&self) -> &[Label]
+        ensures { result.now ≡ self.now.labels }
+    {
+        &self.labels
+    }
+
     /// The zero label of a wire: of an input wire from the beginning on, and of any other once the gate that sets it is
     /// garbled; before, 16 zero bytes. The caller ensures that there is such a wire.
     pub fn zero_label(&self, wire: u32) -> Label

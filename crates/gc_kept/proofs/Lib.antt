@@ -9,3 +9,5 @@ mod ManyLemmas
 mod OpenLemmas
 mod EachLemmas
 mod GarblingsLemmas
+pub mod StreamingLemmas
+pub mod GarblerLemmas

@@ -14,3 +14,6 @@ pub mod Wires
 pub mod Audit
 pub mod Labels
 pub mod Opening
+pub mod Garbler
+pub mod Evaluator
+pub mod Ranges

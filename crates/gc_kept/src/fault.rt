@@ -36,6 +36,8 @@ pub enum KeptFault {
     WrongLabel,
     /// Bytes that are read have another number than the call takes.
     WrongSize,
+    /// Row pairs are left to be made, or to be used.
+    Unfinished,
 }
 
 impl KeptFault {
@@ -44,7 +46,7 @@ impl KeptFault {
     pub fn code(self) -> u32
         ensures code { result ≡ code_of self }
         ensures some { 0 < result }
-        ensures few { result < 67 }
+        ensures few { result < 68 }
     {
         match self {
             KeptFault::Circuit(fault) => fault.code(),
@@ -59,6 +61,7 @@ impl KeptFault {
             KeptFault::Memory => 62,
             KeptFault::WrongLabel => 63,
             KeptFault::WrongSize => 66,
+            KeptFault::Unfinished => 67,
         }
     }
 }

@@ -6,23 +6,22 @@ ghost use Rattle.gc_kept.specs.Labels.{AreEvaluatedTo, HasLabelsEvalFault, AreDe
 use crate::bits::{read_bits, write_bits};
 use crate::circuit::KeptCircuit;
 use crate::fault::KeptFault;
-use crate::label_bytes::write_labels;
 use crate::room::has_room;
+use gc_file::labels_from_bytes;
 use gc_file::sizes::{LABEL, PAIR};
-use gc_file::{labels_from_bytes, rows_from_bytes};
-use gc_half::{FirstAnd, evaluate_labels};
+use gc_half::FirstAnd;
 use gc_job::{EvalFault, decoded};
 use std::alloc::Global;
 
 /// There is no memory for an evaluation.
-const NO_MEMORY: KeptFault = KeptFault::Evaluation(EvalFault::Memory);
+pub(crate) const NO_MEMORY: KeptFault = KeptFault::Evaluation(EvalFault::Memory);
 
 impl KeptCircuit {
     /// Evaluates row pairs, 32 bytes for each AND gate, and an active label for each input wire, 16 bytes each, as
-    /// [`evaluate_labels`] does, and writes the active labels of the output wires to the front of a buffer. AND gates
-    /// are numbered from `first` on. Nothing of the rows and the labels is trusted. It refuses other numbers of bytes
-    /// (66), then a first AND gate whose sum with the number of AND gates is above 2^62 (60), and then a buffer that
-    /// is too small (61).
+    /// [`evaluate_labels`](gc_half::evaluate_labels) does, and writes the active labels of the output wires to the
+    /// front of a buffer. AND gates are numbered from `first` on. Nothing of the rows and the labels is trusted. It
+    /// refuses other numbers of bytes (66), then a first AND gate whose sum with the number of AND gates is above 2^62
+    /// (60), and then a buffer that is too small (61).
     pub fn evaluate_labels(
         &self,
         alloc: Global,
@@ -48,16 +47,9 @@ impl KeptCircuit {
             return Err(KeptFault::BadArgument);
         };
         has_room(LABEL * circuit.output_wires() as usize, outputs)?;
-        let Ok(rows) = rows_from_bytes(alloc, rows) else {
-            return Err(NO_MEMORY);
-        };
-        let Ok(inputs) = labels_from_bytes(alloc, labels) else {
-            return Err(NO_MEMORY);
-        };
-        let Ok(found) = evaluate_labels(alloc, circuit, &rows, first, &inputs) else {
-            return Err(NO_MEMORY);
-        };
-        write_labels(&found, outputs);
+        let mut evaluator = self.evaluator_on(alloc, first, labels)?;
+        evaluator.use_rows(rows);
+        evaluator.write_labels(outputs);
         Ok(())
     }
 }

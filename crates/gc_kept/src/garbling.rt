@@ -10,8 +10,6 @@ ghost use Rattle.gc_kept.specs.Labels.{HasFromLabelsFault, IsFromLabels};
 use crate::bits::bit_byte;
 use crate::circuit::KeptCircuit;
 use crate::fault::KeptFault;
-use gc_file::labels_from_bytes;
-use gc_file::sizes::LABEL;
 use gc_half::{FirstAnd, Garbling, encode, garble_from, garble_one_thread};
 use gc_label::{Label, Offset, Seed, offset};
 use std::alloc::Global;
@@ -82,26 +80,16 @@ impl KeptCircuit {
         ensures fault { IfErr result
             (HasFromLabelsFault self.now offset.now zero_labels.now first) }
     {
+        let given = self.given(alloc, offset, zero_labels, first)?;
         let circuit = self.circuit();
-        if zero_labels.len() != LABEL * circuit.input_wires() as usize {
-            return Err(KeptFault::WrongSize);
-        }
-        let Some(offset) = Offset::new(Label::from_bytes(*offset)) else {
-            return Err(KeptFault::BadArgument);
-        };
-        let Some(first) = FirstAnd::new(first, circuit.and_count()) else {
-            return Err(KeptFault::BadArgument);
-        };
-        let Ok(labels) = labels_from_bytes(alloc, zero_labels) else {
-            return Err(KeptFault::Garbling);
-        };
-        let Ok(garbling) = garble_from(alloc, circuit, offset, &labels, first) else {
+        let Ok(garbling) = garble_from(alloc, circuit, given.offset, &given.labels, given.first)
+        else {
             return Err(KeptFault::Garbling);
         };
         Ok(KeptGarbling {
             circuit: self.again()?,
-            offset,
-            first,
+            offset: given.offset,
+            first: given.first,
             garbling,
         })
     }

@@ -1,6 +1,8 @@
 //! What a caller in another language holds.
 
 use crate::circuit::KeptCircuit;
+use crate::evaluator::KeptEvaluator;
+use crate::garbler::KeptGarbler;
 use crate::garbling::KeptGarbling;
 use crate::job::KeptJob;
 
@@ -13,4 +15,8 @@ pub enum Held {
     Garbling(KeptGarbling),
     /// A job.
     Job(KeptJob),
+    /// A garbling in progress.
+    Garbler(KeptGarbler),
+    /// An evaluation in progress.
+    Evaluator(KeptEvaluator),
 }

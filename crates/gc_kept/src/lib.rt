@@ -3,18 +3,23 @@
 //!
 //! A [`KeptCircuit`] has its digest with it. A [`KeptGarbling`] and a [`KeptJob`] share their circuit. A garbling is
 //! made under a seed, or from an offset and labels of the caller's; circuits that follow one another are garbled and
-//! evaluated from labels to labels.
+//! evaluated from labels to labels. A [`KeptGarbler`] gives its row pairs in pieces, and a [`KeptEvaluator`] takes them so.
 #![tactic(auto)]
 
 mod audit;
 mod bits;
+mod both;
+mod chunk;
 mod circuit;
 mod each;
+mod evaluator;
 mod fault;
 mod files;
 mod from_labels;
+mod garbler;
 mod garbling;
 mod garblings;
+mod given;
 mod held;
 mod job;
 mod jobs;
@@ -24,6 +29,7 @@ mod label_files;
 mod many;
 mod open;
 mod plain;
+mod ranges;
 mod room;
 mod values;
 mod version;
@@ -32,8 +38,10 @@ mod wires;
 pub use bits::write_bits;
 pub use circuit::KeptCircuit;
 pub use each::evaluate_each;
+pub use evaluator::KeptEvaluator;
 pub use fault::KeptFault;
 pub use from_labels::decode;
+pub use garbler::KeptGarbler;
 pub use garbling::KeptGarbling;
 pub use garblings::write_many;
 pub use held::Held;

@@ -11,13 +11,12 @@ ghost use Rattle.gc_kept.specs.Files.{IsFileAt, HasRoomFault};
 ghost use Rattle.gc_kept.specs.Labels.{AreValueLabels, HasValueLabelsFault, first_output_of, zero_labels_from};
 
 use crate::bits::bit_byte;
+use crate::both::write_both;
 use crate::fault::KeptFault;
 use crate::garbling::KeptGarbling;
-use crate::label_bytes::{write_labels, write_rows, write_sums};
 use crate::room::has_room;
 use gc_circuit::Circuit;
 use gc_file::first_wire;
-use gc_file::sizes::{LABEL, PAIR};
 use gc_label::Label;
 use std::alloc::Allocator;
 
@@ -109,11 +108,7 @@ impl KeptGarbling {
         ensures zero_unwritten { OnErr result (zero.new ≡ zero.old) }
         ensures one_unwritten { OnErr result (one.new ≡ one.old) }
     {
-        has_room(LABEL * labels.len(), zero)?;
-        has_room(LABEL * labels.len(), one)?;
-        write_labels(labels, zero);
-        write_sums(labels, self.offset.label(), one);
-        Ok(())
+        write_both(labels, self.offset, zero, one)
     }
 
     /// Writes the row pairs, 32 bytes for each AND gate in file order, to the front of a buffer: the generator's row,
@@ -125,10 +120,8 @@ impl KeptGarbling {
             (HasRoomFault (32 * length self.now.garbling.rows) (length buffer.old)) }
         ensures unwritten { OnErr result (buffer.new ≡ buffer.old) }
     {
-        let rows = self.garbling.rows();
-        has_room(PAIR * rows.len(), buffer)?;
-        write_rows(rows, buffer);
-        Ok(())
+        self.law_garbled();
+        self.rows_range(0, self.circuit.circuit().and_count(), buffer)
     }
 
     /// Writes the decode bits, a byte for each output wire in order, to the front of a buffer. It refuses a buffer

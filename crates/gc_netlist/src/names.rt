@@ -64,6 +64,7 @@ pub fn fault_name(code: u32) -> &'static str
         64 => "NullPointer",
         65 => "WrongHandle",
         66 => "WrongSize",
+        67 => "Unfinished",
         _ => "Unknown",
     }
 }

@@ -5,7 +5,7 @@ use Rattle.halfgates_c.specs.declared.borrow.Borrow.{Borrow}
 use Rattle.gc_job.specs.Job.{JobParts}
 use Rattle.gc_kept.specs.Garbling.{GarblingWith}
 use Rattle.gc_kept.specs.declared.held.Held.{Held}
-use Rattle.gc_kept.specs.declared.held.Held.TheVariants.{Circuit, Garbling, Job}
+use Rattle.gc_kept.specs.declared.held.Held.TheVariants.{Circuit, Garbling, Job, Garbler, Evaluator}
 use Rattle.halfgates_c.specs.Holding.{OfEach, OfGarbling, OfGarblings, OfJob, OfJobs, OfNoGarblings, OfNoJobs}
 use Rattle.halfgates_c.specs.Borrowing.{handle_of}
 
@@ -35,6 +35,8 @@ garbling_is = record {
     so_too (Some (Circuit it)) code P Q so said = said
     so_too (Some (Garbling it)) code P Q so said = so it said
     so_too (Some (Job it)) code P Q so said = said
+    so_too (Some (Garbler it)) code P Q so said = said
+    so_too (Some (Evaluator it)) code P Q so said = said
 
 job_is : IsSaid OfJob Job
 job_is = record {
@@ -48,6 +50,8 @@ job_is = record {
     so_too (Some (Circuit it)) code P Q so said = said
     so_too (Some (Garbling it)) code P Q so said = said
     so_too (Some (Job it)) code P Q so said = so it said
+    so_too (Some (Garbler it)) code P Q so said = said
+    so_too (Some (Evaluator it)) code P Q so said = said
 
 module _ {X : Type 0} (OfOne : Option Held → (code : ℤ) → (X → Type 0) → Type 0)
     (held_in : X → Held) (is : IsSaid OfOne held_in) where

@@ -3,8 +3,10 @@ use Rattle.std.specs.Prelude.{◌≡◌, ◌⊎◌, ℤ, pos, Option, Some, None
 use Rattle.gc_netlist.specs.Circuit.{Netlist}
 use Rattle.gc_job.specs.Job.{JobParts}
 use Rattle.gc_kept.specs.Garbling.{GarblingWith}
+use Rattle.gc_kept.specs.Garbler.{GarblerWith}
+use Rattle.gc_kept.specs.Evaluator.{EvaluatorWith}
 use Rattle.gc_kept.specs.declared.held.Held.{Held}
-use Rattle.gc_kept.specs.declared.held.Held.TheVariants.{Circuit, Garbling, Job}
+use Rattle.gc_kept.specs.declared.held.Held.TheVariants.{Circuit, Garbling, Job, Garbler, Evaluator}
 use Rattle.halfgates_c.specs.declared.slot.Slot.{Slot}
 
 -- The code is what a call on a circuit says of it, or 64 for a null, and 65 for a handle of another type.
@@ -13,6 +15,8 @@ OfCircuit None code P = code ≡ pos 64
 OfCircuit (Some (Circuit circuit)) code P = P circuit
 OfCircuit (Some (Garbling garbling)) code P = code ≡ pos 65
 OfCircuit (Some (Job job)) code P = code ≡ pos 65
+OfCircuit (Some (Garbler garbler)) code P = code ≡ pos 65
+OfCircuit (Some (Evaluator evaluator)) code P = code ≡ pos 65
 
 -- The same of a garbling,
 abbrev pub OfGarbling : Option Held → (code : ℤ) → (GarblingWith → Type 0) → Type 0
@@ -20,13 +24,35 @@ OfGarbling None code P = code ≡ pos 64
 OfGarbling (Some (Circuit circuit)) code P = code ≡ pos 65
 OfGarbling (Some (Garbling garbling)) code P = P garbling
 OfGarbling (Some (Job job)) code P = code ≡ pos 65
+OfGarbling (Some (Garbler garbler)) code P = code ≡ pos 65
+OfGarbling (Some (Evaluator evaluator)) code P = code ≡ pos 65
 
--- and of a job.
+-- of a job,
 abbrev pub OfJob : Option Held → (code : ℤ) → (JobParts → Type 0) → Type 0
 OfJob None code P = code ≡ pos 64
 OfJob (Some (Circuit circuit)) code P = code ≡ pos 65
 OfJob (Some (Garbling garbling)) code P = code ≡ pos 65
 OfJob (Some (Job job)) code P = P job
+OfJob (Some (Garbler garbler)) code P = code ≡ pos 65
+OfJob (Some (Evaluator evaluator)) code P = code ≡ pos 65
+
+-- of a garbler,
+abbrev pub OfGarbler : Option Held → (code : ℤ) → (GarblerWith → Type 0) → Type 0
+OfGarbler None code P = code ≡ pos 64
+OfGarbler (Some (Circuit circuit)) code P = code ≡ pos 65
+OfGarbler (Some (Garbling garbling)) code P = code ≡ pos 65
+OfGarbler (Some (Job job)) code P = code ≡ pos 65
+OfGarbler (Some (Garbler garbler)) code P = P garbler
+OfGarbler (Some (Evaluator evaluator)) code P = code ≡ pos 65
+
+-- and of an evaluator.
+abbrev pub OfEvaluator : Option Held → (code : ℤ) → (EvaluatorWith → Type 0) → Type 0
+OfEvaluator None code P = code ≡ pos 64
+OfEvaluator (Some (Circuit circuit)) code P = code ≡ pos 65
+OfEvaluator (Some (Garbling garbling)) code P = code ≡ pos 65
+OfEvaluator (Some (Job job)) code P = code ≡ pos 65
+OfEvaluator (Some (Garbler garbler)) code P = code ≡ pos 65
+OfEvaluator (Some (Evaluator evaluator)) code P = P evaluator
 
 -- The code is what a call on a list of things says of them, or that of the first handle in the list that holds none.
 -- What is said of one handle is `OfGarbling` or `OfJob`.
@@ -58,6 +84,8 @@ circuit_of None = None
 circuit_of (Some (Circuit circuit)) = Some circuit
 circuit_of (Some (Garbling garbling)) = None
 circuit_of (Some (Job job)) = None
+circuit_of (Some (Garbler garbler)) = None
+circuit_of (Some (Evaluator evaluator)) = None
 
 -- C's pointer is to a handle that holds this.
 abbrev pub Holds : Slot → Held → Type 0

@@ -11,3 +11,4 @@ pub mod Reading
 pub mod Reports
 pub mod WireLabels
 pub mod Names
+pub mod InProgress

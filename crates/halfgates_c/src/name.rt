@@ -71,6 +71,7 @@ fn code_name(code: i32) -> &'static str
         64 => "NullPointer",
         65 => "WrongHandle",
         66 => "WrongSize",
+        67 => "Unfinished",
         _ => "Unknown",
     }
 }

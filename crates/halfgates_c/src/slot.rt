@@ -11,6 +11,7 @@ use gc_kept::{Held, KeptFault};
 use std::alloc::Global;
 use std::marker::Model;
 use std::mem;
+use std::ptr::null_mut;
 
 /// C's pointer to a handle: it owns what the handle holds, or is null. The heap's handle takes no bytes, so to C it is
 /// one pointer.
@@ -63,6 +64,33 @@ impl Slot {
         let slot = Slot::holding(alloc, held)?;
         mem::forget(mem::replace(self, slot));
         Ok(())
+    }
+
+    /// Null.
+    fn null(alloc: Global) -> Slot
+        ensures { result.held ≡ None }
+    {
+        Slot {
+            at: null_mut(),
+            alloc,
+        }
+    }
+
+    /// Takes the box out, for the time of a call that changes what it holds, and leaves null. `put` gives it back.
+    pub(crate) fn take(&mut self, alloc: Global) -> Option<Box<Held, Global>>
+        ensures held { MatchOption result (self.old.held ≡ None)
+            (λ held. self.old.held ≡ Some held.value) }
+        ensures left { self.new.held ≡ None }
+    {
+        let parts = mem::replace(self, Slot::null(alloc)).into_parts()?;
+        Some(parts.into_box())
+    }
+
+    /// Gives back what was taken: the pointer is the box's, where it was.
+    pub(crate) fn put(&mut self, held: Box<Held, Global>)
+        ensures { Holds self.new held.value }
+    {
+        *self = Slot::of_parts(BoxParts::of(held));
     }
 
     /// The pointer to a handle of this.

@@ -1,0 +1,7 @@
+use Rattle.std.proofs.Common.{◌≡◌, map, take}
+use Rattle.gc_netlist.specs.Spelling.{bit_number}
+use Rattle.gc_label.specs.Label.{colour}
+use Rattle.gc_kept.proofs.both.put_colours.Given as goal
+
+abbrev pub invariant-loop-i : goal.invariant-loop-i
+invariant-loop-i l = take l.i l.bits ≡ map bit_number (map colour (take l.i l.labels))
