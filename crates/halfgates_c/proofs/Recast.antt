@@ -1,5 +1,5 @@
 -- The walk of a function that makes a struct of a pointer from another such struct.
-use Rattle.halfgates_c.proofs.Walk.{◌≡◌, List, [], ◌∷◌, ◌++◌, refl, sym, subst, T, Ura, emp, Fml, ftrue, Fn}
+use Rattle.halfgates_c.proofs.Walk.{◌≡◌, List, [], ◌∷◌, refl, sym, subst, T, Ura, emp, Fml, ftrue, Fn}
 use Rattle.halfgates_c.proofs.Walk.{Callee, Val, Model, Closed, Logic, ‵, ◌$◌, !, keep, rewrite, fact, fact_i}
 use Rattle.halfgates_c.proofs.Walk.{fsplit, fjoin, use0, stop, fld, of_opd, no_more, and_then, returns}
 use Rattle.halfgates_c.proofs.Walk.{alloc_all, pass_all, free_all, look_at, get, get_in, sets, agg}

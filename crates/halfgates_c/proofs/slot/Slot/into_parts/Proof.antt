@@ -1,8 +1,8 @@
 -- `into_parts` compares the pointer with null. Where a box lies behind it, it casts the pointer and moves the
 -- allocator over.
-use Rattle.halfgates_c.proofs.Walk.{[], ◌∷◌, refl, ap, ◌∙◌, lit<, Val, vptr, a_type, inst_fn, fact_i}
-use Rattle.halfgates_c.proofs.Walk.{yes, RattleType, Ptr, block_ptr, null_ptr, ptr_val, param, layout}
-use Rattle.halfgates_c.proofs.Walk.{layouts, tables, ‵, ◌$◌, !, keep, drop, use0, use1, at_ret, stop}
+use Rattle.halfgates_c.proofs.Walk.{[], ◌∷◌, refl, ap, ◌∙◌, lit<, Val, vptr, fact_i}
+use Rattle.halfgates_c.proofs.Walk.{yes, RattleType, Ptr, block_ptr, null_ptr, ptr_val, layout}
+use Rattle.halfgates_c.proofs.Walk.{tables, ‵, ◌$◌, !, keep, drop, use0, use1, at_ret, stop}
 use Rattle.halfgates_c.proofs.Walk.{fld, lit, of_opd, bin, no_more, and_then, first, branches, exec}
 use Rattle.halfgates_c.proofs.Walk.{returns, alloc_all, pass_all, free_all, look_at, get, get_in}
 use Rattle.halfgates_c.proofs.Walk.{sets, sets_last, env, agg, sub, whole, enter_at, Walk, met_by}
