@@ -1,14 +1,10 @@
 -- Row pairs that are compared with given ones as they are made.
 use Rattle.gc_half.proofs.Names.{◌≡◌, ℕ, ◌+◌, ◌<◌, ◌++◌, List, [], ◌∷◌, length, take, drop, get_or, set, slice_get, Option, Some, MatchOption, refl, sym, ◌∙◌, arith, gets, Netlist, IsLawful, input_wires, input_label_of, RowPair, GarblingParts, IsGarbled}
-use Rattle.std.proofs.lemmas.List.{take_all, take_more_set, drop_all, drop_more, drop-drop, drop-set-lt, get_or-drop, length-take-le, length_push}
+use Rattle.std.proofs.lemmas.List.{take_more_set, drop_all, drop_more, drop-drop, drop-set-lt, get_or-drop, length-take-le}
 use Rattle.std.proofs.lemmas.Grind.{common_steps}
 use Rattle.gc_half.specs.declared.garbling.Mismatch.{Mismatch}
-use Rattle.gc_half.specs.Comparing.{IsFirstMismatch, IsComparison, HasLabels, RowTableParts, AreCompared, IsNextMismatch}
+use Rattle.gc_half.specs.Comparing.{IsFirstMismatch, IsComparison, HasLabels, AreCompared, IsNextMismatch}
 use Rattle.gc_half.proofs.CanonicalLemmas.{garbling_of-IsGarbled, IsGarbled-same}
-
--- the row pairs that are made, the given ones that are left, and the first mismatch
-abbrev parts : List RowPair → List RowPair → Option Mismatch → RowTableParts
-parts made left first = record { made = made; left = left; first = first }
 
 module _ (given : List RowPair) where
   -- The pair that is made is compared with the next given one. A mismatch stays the first one.
@@ -20,31 +16,22 @@ module _ (given : List RowPair) where
   next_first made old pair there first next is before = search (arith, common_steps, gets)
 
   -- A pair takes the place of the next given one.
-  pub compared-replace : (rows : List RowPair) (n : ℕ) (old pair : RowPair)
+  pub compared-next : (rows : List RowPair) (n : ℕ) (old pair : RowPair)
       (first next : Option Mismatch) → n < length rows → old ≡ get_or rows n old
       → IsNextMismatch first n old pair next
-      → AreCompared given (parts (take n rows) (drop n rows) first)
-      → AreCompared given
-      (parts (take (n + 1) (set rows n pair)) (drop (n + 1) (set rows n pair)) next)
-  compared-replace rows n old pair first next below read is before =
+      → AreCompared given n rows first → AreCompared given (n + 1) (set rows n pair) next
+  compared-next rows n old pair first next below read is before =
       let long : length (take n rows) ≡ n = length-take-le n rows (omega arith) in
       let left : drop n given ≡ old ∷ drop (n + 1) rows =
-      rw read (sym (rw long at before.left) ∙ drop_more rows n old below) in
+      rw read (sym before.left ∙ drop_more rows n old below) in
       let there : slice_get given n ≡ Some old =
       grind (arith, gets, get_or-drop n given 0 old, drop_all n given) in
-      rw (take_more_set rows n pair below, drop-set-lt (n + 1) rows n pair (omega arith))
-      (record {
-        left = rw (length_push (take n rows) pair, long, ← drop-drop 1 n given, left) refl;
-        first = λ few. rw (length_push (take n rows) pair)
-            (next_first (take n rows) old pair (rw long there) first next (rw long is)
-            (before.first (omega (arith, few, length_push (take n rows) pair))));
-      })
-
-  -- Where as many were given as are made, all were compared.
-  pub compared-end : (t : RowTableParts) → AreCompared given t → length given ≡ length t.made
-      → MatchOption t.first (given ≡ t.made) (IsFirstMismatch given t.made)
-  compared-end t are many =
-      rw (take_all (length t.made) given (omega arith)) at (are.first (omega arith))
+      record {
+        left = rw (drop-set-lt (n + 1) rows n pair (omega arith), ← drop-drop 1 n given, left) refl;
+        first = rw (take_more_set rows n pair below)
+            (rw long at (next_first (take n rows) old pair (rw long there) first next (rw long is)
+            (rw long before.first)));
+      }
 
 module _ (c : Netlist) (seed : List ℕ) (lawful : IsLawful c) (g : GarblingParts) where
   -- The circuit's garbling has its labels,

@@ -1,14 +1,12 @@
 -- Garbling in file order: the table of zero labels and the row pairs, gate after gate.
-use Rattle.gc_half.proofs.Names.{◌≡◌, ℕ, ap, input_label_of, input_zero, add-one, if◌then◌else◌, ◌==◌, ◌+◌, ◌-◌, ◌<◌, ◌≤◌, ◌++◌, inl, ⊎_elim, List, [], length, map, set, get_or-set_same, get_or-set_other, replicate, slice_get, slice_index, Some, take, refl, sym, ◌∙◌, subst, arith, nat_tests, slice_get_within, Gate, Netlist, input_wires, output_wires, IsLawful, IsSet, IsSetBy, IsSetBefore, EachRead, and_number, put, EachRead-map, after-keeps, solution_solves, RowPair, first_read, second_read, gate_rows, zero_of, IsGarbling, rows_after, with_row_pair}
+use Rattle.gc_half.proofs.Names.{◌≡◌, ℕ, ap, input_label_of, input_zero, add-one, if◌then◌else◌, ◌==◌, ◌+◌, ◌-◌, ◌<◌, ◌≤◌, ◌++◌, inl, inr, ⊎_elim, List, [], length, map, set, get_or-set_same, get_or-set_other, replicate, slice_get, slice_index, Some, take, refl, sym, ◌∙◌, subst, arith, nat_tests, slice_get_within, Gate, Netlist, input_wires, output_wires, IsLawful, IsSet, IsSetBy, IsSetBefore, EachRead, and_number, put, EachRead-map, after-keeps, solution_solves, RowPair, first_read, second_read, gate_rows, zero_of, IsGarbling, rows_after, with_row_pair}
 use Rattle.std.specs.List.{range_with_len}
 use Rattle.std.proofs.lemmas.Bool.{cases_lt}
 use Rattle.std.proofs.lemmas.List.{get_or_past, take_all}
-use Rattle.std.proofs.lemmas.List.FromFn.{length-map-range_with_len}
 use Rattle.gc_netlist.specs.Solution.{values_after}
 use Rattle.gc_netlist.proofs.Tables.{read-table, length-table, table_padded, IsSetBefore-below}
 use Rattle.gc_half.specs.Garbling.{IsGarbledFrom}
-use Rattle.gc_half.specs.FirstGates.{AreGarbled, IsTableAfter, labels_after, label_of}
-use Rattle.gc_half.specs.Comparing.{RowTableParts}
+use Rattle.gc_half.specs.FirstGates.{AreGarbled, labels_after, label_of}
 use Rattle.gc_half.specs.Hash.{hash, numbered_from}
 use Rattle.gc_half.specs.SideBySide.{IsOneGateMore}
 use Rattle.gc_half.proofs.AndNumbers.{and_number-le}
@@ -48,6 +46,18 @@ module _ (h : ℕ → ℕ → ℕ) (r : ℕ) (c : Netlist) (given : List ℕ) wh
   labels-padded n labels table rows count wires are count_is wires_is made =
       rw (made, wires_is, count_is, take_all c.wires labels are.few)
       (simp are.right at (table_padded labels c.wires 0 are.few))
+
+  -- At the start the labels are the given ones: those of the input wires, at least.
+  pub garbled-start : input_wires c ≤ length given → length given ≤ c.wires
+      → AreGarbled h r c given 0 given []
+  unfolding values_after
+  garbled-start inputs few =
+      record {
+        few = few;
+        there = λ w set. grind (arith, inputs);
+        right = λ w. refl;
+        row_pairs = sym (rows_after-start h r c (label_of h r c given));
+      }
 
   module _ (lawful : IsLawful c) where
     -- One more gate: its label is put where it belongs, and its row pair is pushed.
@@ -102,65 +112,45 @@ module _ (h : ℕ → ℕ → ℕ) (r : ℕ) (c : Netlist) (given : List ℕ) wh
         garbled-next i g at labels new rows new_rows are more.label more.there more.kept
         (omega (arith, more.few, wires_is)) more.row_pairs
 
-    module _ (long : length given ≡ input_wires c) where
-      -- At the start the labels are those of the input wires.
-      pub garbled-start : AreGarbled h r c given 0 given []
-      unfolding values_after
-      garbled-start =
-          record {
-            few = omega (arith, lawful.inputs_fit, long);
-            there = λ w set. grind (arith, long);
-            right = λ w. refl;
-            row_pairs = sym (rows_after-start h r c (label_of h r c given));
-          }
+    -- The labels on the wires and their rows are a garbling.
+    labels-garbling : IsGarbling h r c (slice_index given) (label_of h r c given)
+        (rows_after h r c (label_of h r c given) (length c.gates))
+    unfolding label_of
+    labels-garbling =
+        rows-garbling h r c lawful (slice_index given) _
+        (solution_solves _ (zero_local h r c) c lawful (slice_index given))
 
-      -- A wire that is not set has the label 0.
-      label_of-not_set : (w : ℕ) → ¬ IsSet c w → (label_of h r c given) w ≡ 0
-      unfolding label_of
-      label_of-not_set w unset =
-          not_set_before _ c (slice_index given) w (length c.gates) unset
-          ∙ ⊎_elim (λ input. absurd (unset (inl (omega (arith, input, long)))))
-          (λ past. get_or_past given w 0 past) (cases_lt w (length given))
+    -- A wire that is not set has the label 0.
+    label_of-not_set : ((w : ℕ) → input_wires c ≤ w → slice_index given w ≡ 0)
+        → (w : ℕ) → ¬ IsSet c w → (label_of h r c given) w ≡ 0
+    unfolding label_of
+    label_of-not_set others w unset =
+        not_set_before _ c (slice_index given) w (length c.gates) unset
+        ∙ ⊎_elim (λ input. absurd (unset (inl input))) (λ past. others w past)
+        (cases_lt w (input_wires c))
 
-      -- The labels on the wires and their rows are a garbling.
-      labels-garbling : IsGarbling h r c (slice_index given) (label_of h r c given)
-          (rows_after h r c (label_of h r c given) (length c.gates))
-      unfolding label_of
-      labels-garbling =
-          rows-garbling h r c lawful (slice_index given) _
-          (solution_solves _ (zero_local h r c) c lawful (slice_index given))
-
-      -- So is what is in a table of them.
-      pub table-garbling : (table : List ℕ)
-          → table ≡ map (label_of h r c given) (range_with_len 0 c.wires)
-          → IsGarbling h r c (slice_index given) (slice_index table)
-          (rows_after h r c (label_of h r c given) (length c.gates))
-      table-garbling table is =
-          IsGarbling-same h r c lawful (slice_index given) (label_of h r c given)
-          (slice_index table) _
-          (λ w set. rw is (sym (read-table (label_of h r c given) c.wires w 0
-          (IsSetBefore-below c lawful _ w set))))
-          labels-garbling
-
-      pub table-not_set : (table : List ℕ)
-          → table ≡ map (label_of h r c given) (range_with_len 0 c.wires)
-          → (w : ℕ) → w < c.wires → ¬ IsSet c w → slice_index table w ≡ 0
-      table-not_set table is w below unset =
-          rw is (read-table (label_of h r c given) c.wires w 0 below ∙ label_of-not_set w unset)
-
--- No gate is garbled yet.
-pub table-start : (first r : ℕ) (c : Netlist) → IsLawful c → (given : List ℕ)
-    → length given ≡ input_wires c → (compared : RowTableParts)
-    → IsTableAfter first r c given 0
-    (record { first = first; labels = given; rows = []; compared = compared; waiting = [] })
-table-start first r c lawful given long compared =
+-- After the last gate a table of all wires and the row pairs are the garbling.
+pub garbled-whole : (first r : ℕ) (c : Netlist) (given : List ℕ) → IsLawful c
+    → ((w : ℕ) → input_wires c ≤ w → slice_index given w ≡ 0)
+    → (labels : List ℕ) (rows : List RowPair) (outputs : ℕ) → length labels ≡ c.wires
+    → AreGarbled (numbered_from first hash) r c given (length c.gates) labels rows
+    → outputs ≡ output_wires c
+    → IsGarbledFrom r (slice_index given) first c
+    (record { zero_labels = labels; rows = rows; outputs = outputs })
+unfolding label_of
+garbled-whole first r c given lawful others labels rows outputs long are outputs_are =
+    let h = numbered_from first hash in
     record {
-      numbered = refl;
-      garbled = garbled-start (numbered_from first hash) r c given lawful long;
-      waiting = λ w unset. tt;
+      garbling = rw are.row_pairs (IsGarbling-same h r c lawful (slice_index given)
+          (label_of h r c given) (slice_index labels) _ (λ w set. sym (are.right w))
+          (labels-garbling h r c given lawful));
+      wires = long;
+      not_set = λ w below unset.
+          are.right w ∙ label_of-not_set h r c given lawful others w unset;
+      outputs = outputs_are;
     }
 
--- After the last gate the table and the row pairs are the garbling.
+-- The same of a table that is lengthened by zeros.
 pub garbled-end : (first r : ℕ) (c : Netlist) (given : List ℕ) → IsLawful c
     → length given ≡ input_wires c → (labels table : List ℕ) (count wires outputs : ℕ)
     (rows : List RowPair)
@@ -169,18 +159,34 @@ pub garbled-end : (first r : ℕ) (c : Netlist) (given : List ℕ) → IsLawful 
     → table ≡ take wires labels ++ replicate (wires - count) 0 → outputs ≡ output_wires c
     → IsGarbledFrom r (slice_index given) first c
     (record { zero_labels = table; rows = rows; outputs = outputs })
-unfolding label_of
 garbled-end first r c given lawful long labels table count wires outputs rows are count_is wires_is
     made outputs_are =
-    let h = numbered_from first hash in
-    let padded = labels-padded h r c given _ labels table rows count wires are count_is wires_is
-    made in
-    record {
-      garbling = rw are.row_pairs (table-garbling h r c given lawful long table padded);
-      wires = rw padded (length-map-range_with_len _ 0 c.wires);
-      not_set = table-not_set h r c given lawful long table padded;
-      outputs = outputs_are;
-    }
+    garbled-whole first r c given lawful
+    (λ w past. get_or_past given w 0 (omega (arith, long, past))) table rows outputs many
+    (record {
+      few = omega (arith, many);
+      there = λ w set. omega (arith, many, IsSetBefore-below c lawful (length c.gates) w set);
+      right = right;
+      row_pairs = are.row_pairs;
+    })
+    outputs_are
+  where
+    h : ℕ → ℕ → ℕ
+    h = numbered_from first hash
+
+    padded : table ≡ map (labels_after h r c given (length c.gates)) (range_with_len 0 c.wires)
+    padded = labels-padded h r c given _ labels table rows count wires are count_is wires_is made
+
+    many : length table ≡ c.wires
+    many = length-table _ c.wires table padded
+
+    right : (w : ℕ) → slice_index table w ≡ labels_after h r c given (length c.gates) w
+    right w = elim (cases_lt w c.wires) [
+      | inl inside ↦ rw padded (read-table _ c.wires w 0 inside)
+      | inr past ↦
+          get_or_past table w 0 (omega (arith, many, past))
+          ∙ sym (get_or_past labels w 0 (omega (arith, are.few, past))) ∙ are.right w
+    ]
 
 -- The zero labels of the input wires under a seed, lengthened by zeros.
 pub inputs-padded : (c : Netlist) → IsLawful c → (seed labels table : List ℕ) (count wires : ℕ)
@@ -192,7 +198,8 @@ unfolding values_after
 inputs-padded c lawful seed labels table count wires labels_are count_is wires_is made =
     let long = length-table (input_label_of seed) (input_wires c) labels labels_are in
     labels-padded hash 0 c labels 0 labels table [] count wires
-    (garbled-start hash 0 c labels lawful long) count_is wires_is made
+    (garbled-start hash 0 c labels (omega (arith, long)) (omega (arith, long, lawful.inputs_fit)))
+    count_is wires_is made
     ∙ ap (λ f. map f (range_with_len 0 c.wires)) (λ t w. same w t)
   where
     same : (w : ℕ) → slice_index labels w ≡ input_zero c seed w

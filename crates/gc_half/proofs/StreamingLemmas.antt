@@ -1,5 +1,5 @@
 -- A garbler and an evaluator from piece to piece.
-use Rattle.gc_half.proofs.Names.{◌≡◌, ℕ, ◌+◌, ◌-◌, ◌≤◌, ◌^◌, ◌++◌, [], inl, inr, List, length, map, slice_index, refl, sym, ap, ◌∙◌, arith, nat_tests, Netlist, IsLawful, and_number, and_count, input_wires, input_label_of, input_zero, RowPair}
+use Rattle.gc_half.proofs.Names.{◌≡◌, ℕ, ◌+◌, ◌-◌, ◌≤◌, ◌^◌, ◌++◌, [], inl, inr, List, length, map, slice_index, refl, sym, ap, ◌∙◌, arith, nat_tests, Netlist, IsLawful, and_number, and_count, input_wires, output_wires, input_label_of, input_zero, RowPair}
 use Rattle.std.specs.Prelude.{min}
 use Rattle.std.specs.List.{range_with_len}
 use Rattle.std.proofs.Common.{length-append}
@@ -8,13 +8,14 @@ use Rattle.std.proofs.lemmas.List.{append-nil, get_or_past}
 use Rattle.gc_netlist.specs.Solution.{values_after}
 use Rattle.gc_netlist.proofs.Tables.{read-table, length-table, IsSetBefore-below, after-zero}
 use Rattle.gc_half.specs.FirstGates.{AreGarbled, label_of}
+use Rattle.gc_half.specs.Garbling.{IsGarbledFrom}
 use Rattle.gc_half.specs.Hash.{hash, numbered_from}
 use Rattle.gc_half.specs.Evaluation.{active_rule}
 use Rattle.gc_half.specs.Waiting.{ZeroTableParts, rows_made}
 use Rattle.gc_half.specs.Pieces.{IsPieceAfter, GarblesOn, EndsPiece}
 use Rattle.gc_half.specs.Streaming.{StreamingGarblerParts, IsGarbledSoFar, IsEvaluatedSoFar, input_labels}
 use Rattle.gc_half.proofs.AndNumbers.{and_number-le, and_number-end}
-use Rattle.gc_half.proofs.GarbleLemmas.{count_rows}
+use Rattle.gc_half.proofs.GarbleLemmas.{count_rows, garbled-start, garbled-whole}
 use Rattle.gc_half.proofs.PieceLemmas.{and_number-few, piece-count}
 use Rattle.gc_half.proofs.RowLemmas.{rows_after-start}
 
@@ -26,13 +27,17 @@ module _ (c : Netlist) (lawful : IsLawful c) (given labels : List ℕ)
     (fits : length given ≡ input_wires c)
     (are : labels ≡ map (slice_index given) (range_with_len 0 c.wires)) where
   -- A label of each wire, from those of the input wires.
-  padded : (w : ℕ) → slice_index labels w ≡ slice_index given w
+  pub padded : (w : ℕ) → slice_index labels w ≡ slice_index given w
   padded w = elim (cases_lt w c.wires) [
     | inl inside ↦ rw are (read-table (slice_index given) c.wires w 0 inside)
     | inr past ↦
         get_or_past labels w 0 (omega (arith, length-table _ c.wires labels are, past))
         ∙ sym (get_or_past given w 0 (omega (arith, fits, lawful.inputs_fit, past)))
   ]
+
+  -- The other wires have 0.
+  pub padded-others : (w : ℕ) → input_wires c ≤ w → slice_index labels w ≡ 0
+  padded-others w past = padded w ∙ get_or_past given w 0 (omega (arith, fits, past))
 
   table-begun : (h : ℕ → ℕ → ℕ) (r : ℕ) → AreGarbled h r c given 0 labels []
   unfolding values_after
@@ -64,6 +69,47 @@ module _ (c : Netlist) (lawful : IsLawful c) (given labels : List ℕ)
     made = refl;
     garbled = table-begun (numbered_from first hash) r;
   }
+
+-- A whole circuit is one piece.
+module _ (c : Netlist) (lawful : IsLawful c) (t : ZeroTableParts)
+    (wires : length t.labels ≡ c.wires) (none : t.made ≡ 0) (no_other : t.waiting ≡ [])
+    (places : List RowPair) where
+  pub whole-begun : IsPieceAfter t.offset t.first c t.labels [] 0 t (rows_made t places)
+  whole-begun = record {
+    offset = refl;
+    numbered = omega arith;
+    wires = wires;
+    counted = rw (none, no_other) refl;
+    garbled = rw (none, no_other) (garbled-start (numbered_from t.first hash) t.offset c t.labels
+        (omega (arith, wires, lawful.inputs_fit)) (omega (arith, wires)));
+    waiting = λ w unset. rw no_other tt;
+  }
+
+  module _ {new : ZeroTableParts} {piece : List RowPair} {to : ℕ}
+      (garbles : GarblesOn c 0 to t (rows_made t places) new piece)
+      (many : length places ≡ and_count c) (ends : EndsPiece c 0 (length places) to) where
+    whole-after : IsPieceAfter t.offset t.first c t.labels [] to new piece
+    whole-after = garbles t.offset t.first t.labels [] whole-begun
+
+    -- There is a row pair for each AND gate,
+    pub whole-made : new.made + length new.waiting ≡ and_count c
+    whole-made =
+        omega (
+          arith,
+          whole-after.counted,
+          piece-count t.offset t.first c t.labels [] to new piece whole-after,
+          ends.number,
+          many,
+        )
+
+    -- and the table and the row pairs are the garbling.
+    pub whole-garbled : ((w : ℕ) → input_wires c ≤ w → slice_index t.labels w ≡ 0)
+        → IsGarbledFrom t.offset (slice_index t.labels) t.first c
+        (record { zero_labels = new.labels; rows = piece; outputs = output_wires c })
+    whole-garbled others =
+        garbled-whole t.first t.offset c t.labels lawful others new.labels piece _
+        whole-after.wires (rw (ends.whole (omega (arith, ends.number, many))) at whole-after.garbled)
+        refl
 
 -- The zero labels under a seed, wire by wire.
 input_labels-at : (c : Netlist) (seed : List ℕ) (w : ℕ)

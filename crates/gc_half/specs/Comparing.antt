@@ -1,5 +1,5 @@
 -- Row pairs that are compared with given ones as they are made.
-use Rattle.std.specs.Prelude.{◌≡◌, ◌≢◌, ◌≤◌, ℕ, List, length, take, drop, slice_get, Option, Some, None, MatchOption}
+use Rattle.std.specs.Prelude.{◌≡◌, ◌≢◌, ℕ, List, take, drop, slice_get, Option, Some, None, MatchOption}
 use Rattle.gc_netlist.specs.Circuit.{Netlist}
 use Rattle.gc_half.specs.declared.garbling.RowPair.{RowPair}
 use Rattle.gc_half.specs.declared.garbling.Mismatch.{Mismatch}
@@ -25,21 +25,12 @@ pub record HasLabels (c : Netlist) (seed : List ℕ) (g : GarblingParts) : Type 
   pub labels : g.zero_labels ≡ (garbling_of c seed).zero_labels
   pub fits : FitsCircuit c g
 
--- The row pairs that are made, the given ones that are left, and the first mismatch so far.
-pub record RowTableParts : Type 0 where
-  pub made : List RowPair
-  pub left : List RowPair
-  pub first : Option Mismatch
-
--- The row pairs that are made are in the places of given ones, and were compared with these as far as they go.
-pub record AreCompared (given : List RowPair) (t : RowTableParts) : Type 0 where
-  pub left : t.left ≡ drop (length t.made) given
-  pub first : length t.made ≤ length given →
-      MatchOption t.first (take (length t.made) given ≡ t.made) (IsFirstMismatch given t.made)
-
--- What was compared before is compared after, whatever was given.
-abbrev pub KeepsCompared : RowTableParts → RowTableParts → Type 0
-KeepsCompared old new = (given : List RowPair) → AreCompared given old → AreCompared given new
+-- The first n row pairs are made, in the places of given ones, and compared with these: this is their first mismatch.
+-- The others are the given ones.
+pub record AreCompared (given : List RowPair) (n : ℕ) (rows : List RowPair) (found : Option Mismatch)
+    : Type 0 where
+  pub left : drop n rows ≡ drop n given
+  pub first : MatchOption found (take n given ≡ take n rows) (IsFirstMismatch given (take n rows))
 
 -- The first mismatch, once a pair is made at a place: the one before, or else this one, if there is one.
 abbrev pub IsNextMismatch : Option Mismatch → ℕ → RowPair → RowPair → Option Mismatch → Type 0

@@ -3,10 +3,8 @@ use Rattle.std.specs.Prelude.{◌≡◌, ℕ, ◌<◌, ◌≤◌, List, length, 
 use Rattle.gc_netlist.specs.Circuit.{Netlist, IsSetBefore}
 use Rattle.gc_netlist.specs.Solution.{values_after}
 use Rattle.gc_half.specs.declared.garbling.RowPair.{RowPair}
-use Rattle.gc_half.specs.Hash.{hash, numbered_from}
 use Rattle.gc_half.specs.Garbling.{zero_rule}
 use Rattle.gc_half.specs.Canonical.{rows_after}
-use Rattle.gc_half.specs.Waiting.{GarblingTableParts, NoneSets}
 
 -- The offset is r, and these zero labels of the input wires are given. The hash may be any.
 module _ (h : ℕ → ℕ → ℕ) (r : ℕ) (c : Netlist) (given : List ℕ) where
@@ -25,20 +23,3 @@ module _ (h : ℕ → ℕ → ℕ) (r : ℕ) (c : Netlist) (given : List ℕ) wh
     pub there : (w : ℕ) → IsSetBefore c n w → w < length labels
     pub right : (w : ℕ) → slice_index labels w ≡ labels_after n w
     pub row_pairs : rows ≡ rows_after h r c label_of n
-
--- The table of the first n gates of a circuit whose AND gates are numbered from `first` on.
-pub record IsTableAfter (first r : ℕ) (c : Netlist) (given : List ℕ) (n : ℕ)
-    (t : GarblingTableParts) : Type 0 where
-  pub numbered : t.first ≡ first
-  pub garbled : AreGarbled (numbered_from first hash) r c given n t.labels t.rows
-  pub waiting : (w : ℕ) → ¬ IsSetBefore c n w → NoneSets w t.waiting
-
--- There are a first number and labels of which it is the table.
-abbrev pub IsSomeTable : ℕ → Netlist → ℕ → GarblingTableParts → Type 0
-IsSomeTable r c n t = (first : ℕ) × (given : List ℕ) × IsTableAfter first r c given n t
-
--- Whatever these are, the table of the first m gates becomes that of the first n gates.
-abbrev pub GarblesTo : ℕ → Netlist → ℕ → ℕ → GarblingTableParts → GarblingTableParts → Type 0
-GarblesTo r c m n old new =
-    (first : ℕ) (given : List ℕ) → IsTableAfter first r c given m old
-    → IsTableAfter first r c given n new

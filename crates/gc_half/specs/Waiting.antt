@@ -8,7 +8,6 @@ use Rattle.gc_half.specs.declared.garbling.RowPair.{RowPair}
 use Rattle.gc_half.specs.Hash.{hash, numbered_from}
 use Rattle.gc_half.specs.HalfGate.{and_zero, and_active}
 use Rattle.gc_half.specs.OneGate.{row_pair}
-use Rattle.gc_half.specs.Comparing.{RowTableParts}
 
 abbrev pub list_of : {A : Type 0} → Option A → Option A → Option A → List A
 list_of None second third = []
@@ -50,15 +49,6 @@ module _ (hash : ℕ → ℕ → ℕ) where
 -- The same, where AND gates are numbered from 0 on.
 abbrev pub active_label_of_step : AndStep → ℕ
 active_label_of_step s = active_label_by_step hash s
-
--- A circuit that is garbled gate after gate: the labels of its wires and the row pairs so far, as if no gate waited,
--- the row pairs that are made and compared, the gates that wait, and the number of the first AND gate.
-pub record GarblingTableParts : Type 0 where
-  pub first : ℕ
-  pub labels : List ℕ
-  pub rows : List RowPair
-  pub compared : RowTableParts
-  pub waiting : List (WaitingGate AndGate)
 
 -- A circuit of which a piece is garbled gate after gate: the offset, the number of the piece's first AND gate, the
 -- labels of the circuit's wires, as if no gate waited, how many of the piece's row pairs are in their places, and the

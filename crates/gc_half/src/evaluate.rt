@@ -1,16 +1,18 @@
 //! Evaluating a whole circuit on one thread.
 
-ghost use Rattle.std.specs.Prelude.{◌≡◌, ℕ, length, map, IfOk};
+ghost use Rattle.std.specs.Prelude.{◌≡◌, ◌≤◌, ◌+◌, ℕ, length, map, IfOk};
 ghost use Rattle.std.specs.List.{range_with_len};
-ghost use Rattle.gc_netlist.specs.Circuit.{and_count, input_wires, output_wires};
+ghost use Rattle.gc_netlist.specs.Circuit.{and_count, and_number, input_wires, output_wires};
 ghost use Rattle.gc_netlist.specs.Solution.{on_outputs};
 ghost use Rattle.gc_half.specs.Evaluation.{AreActiveFrom};
 ghost use Rattle.gc_half.specs.Joined.{AreOutputLabels};
+ghost use Rattle.gc_half.specs.Pieces.{EvaluatesOn, CanEvaluate, EndsPiece};
 
 use crate::active_labels::input_active_labels;
 use crate::active_table::ActiveTable;
 use crate::first::FirstAnd;
 use crate::garbling::RowPair;
+use crate::numbers::left_after;
 use gc_circuit::{Circuit, Memory};
 use gc_label::Label;
 use std::alloc::Allocator;
@@ -29,15 +31,9 @@ pub fn evaluate_from<A: Allocator + Copy, C: Allocator>(
     requires inputs { length inputs.now ≡ input_wires circuit.now }
     ensures { IfOk result (λ v. AreActiveFrom first circuit.now rows.now inputs.now v.items) }
 {
-    let mut active = ActiveTable::new(first, input_active_labels(alloc, circuit.wires(), inputs)?);
-    let mut and_number = 0;
-    for i in 0..circuit.gates() {
-        let gate = circuit.gate(i);
-        active.step(and_number, rows, gate);
-        if gate.operation.is_and() {
-            and_number += 1;
-        }
-    }
+    circuit.law_lawful();
+    let labels = input_active_labels(alloc, circuit.wires(), inputs)?;
+    let (active, _) = evaluate_piece(circuit, ActiveTable::new(first, labels), 0, rows);
     Ok(active.into_labels())
 }
 
@@ -72,4 +68,32 @@ pub fn output_labels<'l, C: Allocator>(circuit: &Circuit<C>, labels: &'l [Label]
     let first = circuit.wires() - circuit.output_wires();
     let (_, last) = labels.split_at(first as usize);
     last
+}
+
+/// The table after the gates from `from` on, until all these row pairs are used, and up to the next AND gate or the end;
+/// and the place of that gate in the file. The caller ensures that there are as many gates, that those before are
+/// evaluated in the table, and that there are as many AND gates left.
+pub(crate) fn evaluate_piece<A: Allocator, C: Allocator>(
+    circuit: &Circuit<C>,
+    mut table: ActiveTable<A>,
+    from: u32,
+    rows: &[RowPair],
+) -> (ActiveTable<A>, u32)
+    requires begun { CanEvaluate circuit.now from table }
+    requires gates { from ≤ length circuit.now.gates }
+    requires room { and_number circuit.now from + length rows.now ≤ and_count circuit.now }
+    ensures evaluated { EvaluatesOn circuit.now rows.now from result.1 table result.0 }
+    ensures ends { EndsPiece circuit.now from (length rows.now) result.1 }
+{
+    circuit.law_lawful();
+    let mut left = rows.len();
+    for i in from..circuit.gates() {
+        let gate = circuit.gate(i);
+        let Some(after) = left_after(left, gate.operation) else {
+            return (table, i);
+        };
+        table.step((rows.len() - left) as u32, rows, gate);
+        left = after;
+    }
+    (table, circuit.gates())
 }

@@ -1,16 +1,17 @@
 //! Garbling a whole circuit on one thread.
 
-ghost use Rattle.std.specs.Prelude.{◌≡◌, ◌≤◌, length, slice_index, IfOk, MatchOption};
+ghost use Rattle.std.specs.Prelude.{◌≡◌, ◌≤◌, ◌+◌, ℕ, [], length, slice_index, IfOk};
 ghost use Rattle.gc_netlist.specs.Circuit.{and_count, input_wires, output_wires};
-ghost use Rattle.gc_half.specs.FirstGates.{GarblesTo, IsSomeTable};
-ghost use Rattle.gc_half.specs.Comparing.{IsFirstMismatch, KeepsCompared};
 ghost use Rattle.gc_half.specs.Garbling.{IsGarbled, IsGarbledFrom};
+ghost use Rattle.gc_half.specs.Pieces.{IsSomePiece, GarblesOn, EndsPiece};
+ghost use Rattle.gc_half.specs.Streaming.{KeepsFrom};
+ghost use Rattle.gc_half.specs.Waiting.{rows_made};
 
 use crate::first::FirstAnd;
-use crate::garbling::{Garbling, Mismatch, RowPair};
-use crate::garbling_table::GarblingTable;
-use crate::row_table::RowTable;
-use crate::zero_labels::labels_of_inputs;
+use crate::garbling::{Garbling, NO_ROWS, RowPair};
+use crate::numbers::left_after;
+use crate::zero_labels::{input_zero_labels, padded_labels};
+use crate::zero_table::ZeroTable;
 use gc_circuit::{Circuit, Memory};
 use gc_label::{Label, Offset, Seed, offset};
 use std::alloc::Allocator;
@@ -29,11 +30,9 @@ pub fn garble_from<A: Allocator + Copy, C: Allocator>(
     ensures { IfOk result (λ g.
         IsGarbledFrom offset (slice_index zero_labels.now) first circuit.now g) }
 {
-    let rows = Vec::with_capacity(alloc, circuit.and_count() as usize)?;
-    let mut labels = Vec::with_capacity(alloc, circuit.wires() as usize)?;
-    labels.extend_from_slice(zero_labels)?;
-    let (garbling, _) = garble_over(circuit, offset, labels, first, rows)?;
-    Ok(garbling)
+    circuit.law_lawful();
+    let labels = padded_labels(alloc, circuit.wires(), zero_labels)?;
+    garble_over(circuit, offset, first, labels)
 }
 
 /// The garbling of a circuit under a seed, gate after gate in file order. It allocates for the labels and for the rows,
@@ -45,73 +44,83 @@ pub fn garble_one_thread<A: Allocator + Copy, C: Allocator>(
 ) -> Result<Garbling<A>, Memory>
     ensures { IfOk result (λ g. IsGarbled circuit.now seed.now g) }
 {
-    let rows = Vec::with_capacity(alloc, circuit.and_count() as usize)?;
-    let labels = labels_of_inputs(alloc, circuit, seed)?;
-    let (garbling, _) = garble_over(circuit, offset(seed), labels, FirstAnd::ZERO, rows)?;
-    Ok(garbling)
+    circuit.law_lawful();
+    let labels = input_zero_labels(alloc, circuit, seed)?;
+    garble_over(circuit, offset(seed), FirstAnd::ZERO, labels)
 }
 
-/// The garbling of a circuit under a seed, and the first of the given row pairs that is not the garbling's, if there is
-/// one. Each row pair is compared as soon as it is made, and takes the place of the given one: it allocates for the
-/// labels alone, once. The caller ensures that a row pair is given for each AND gate.
-pub fn garble_and_compare<A: Allocator + Copy, C: Allocator>(
-    alloc: A,
-    circuit: &Circuit<C>,
-    seed: &Seed,
-    given: Vec<RowPair, A>,
-) -> Result<(Garbling<A>, Option<Mismatch>), Memory>
-    requires { length given.items ≡ and_count circuit.now }
-    ensures garbled { IfOk result (λ made. IsGarbled circuit.now seed.now made.0) }
-    ensures compared { IfOk result (λ made. MatchOption made.1 (given.items ≡ made.0.rows)
-        (IsFirstMismatch given.items made.0.rows)) }
-{
-    let labels = labels_of_inputs(alloc, circuit, seed)?;
-    garble_over(circuit, offset(seed), labels, FirstAnd::ZERO, given)
-}
-
-/// The garbling of a circuit with an offset, these zero labels of the input wires, and AND gates that are numbered from
-/// `first` on. Any number of row pairs are given: these are compared as far as they go. The caller ensures that there
-/// are as many zero labels as input wires.
-fn garble_over<A: Allocator, C: Allocator>(
+/// The garbling of a circuit with an offset, AND gates that are numbered from `first` on, and the zero labels of the
+/// input wires in a table of all wires, where each other wire has 16 zero bytes; the caller ensures this. It allocates
+/// once, for the rows.
+fn garble_over<A: Allocator + Copy, C: Allocator>(
     circuit: &Circuit<C>,
     offset: Offset,
-    labels: Vec<Label, A>,
     first: FirstAnd,
-    given: Vec<RowPair, A>,
-) -> Result<(Garbling<A>, Option<Mismatch>), Memory>
-    requires { length labels.items ≡ input_wires circuit.now }
-    ensures garbled { IfOk result (λ made.
-        IsGarbledFrom offset (slice_index labels.items) first circuit.now made.0) }
-    ensures compared { IfOk result (λ made. length given.items ≡ length made.0.rows
-        → MatchOption made.1 (given.items ≡ made.0.rows)
-        (IsFirstMismatch given.items made.0.rows)) }
-{
-    let begun = GarblingTable::new(first, labels, RowTable::new(given));
-    let table = garble_gates(circuit, offset, begun, 0, circuit.gates())?;
-    let (mut zero_labels, rows) = table.finish()?;
-    zero_labels.resize(circuit.wires() as usize, Label::ZERO)?;
-    let (rows, mismatch) = rows.finish();
-    let garbling = Garbling::from_parts(zero_labels, rows, circuit.output_wires());
-    Ok((garbling, mismatch))
-}
-
-/// The table after the gates `from..to` of a circuit. The caller ensures that there are these gates, and that the gates
-/// before them are garbled in the table.
-pub(crate) fn garble_gates<A: Allocator, C: Allocator>(
-    circuit: &Circuit<C>,
-    offset: Offset,
-    mut table: GarblingTable<A>,
-    from: u32,
-    to: u32,
-) -> Result<GarblingTable<A>, Memory>
-    requires begun { IsSomeTable offset circuit.now from table }
-    requires gates { (from ≤ to) × (to ≤ length circuit.now.gates) }
-    ensures garbled { IfOk result (λ made. GarblesTo offset circuit.now from to table made) }
-    ensures compared { IfOk result (λ made. KeepsCompared table.compared made.compared) }
+    labels: Vec<Label, A>,
+) -> Result<Garbling<A>, Memory>
+    requires wires { length labels.items ≡ circuit.now.wires }
+    requires others { (w : ℕ) → input_wires circuit.now ≤ w → slice_index labels.items w ≡ 0 }
+    ensures { IfOk result (λ g.
+        IsGarbledFrom offset (slice_index labels.items) first circuit.now g) }
 {
     circuit.law_lawful();
-    for i in from..to {
-        table.step(offset, circuit.wires(), circuit.gate(i))?;
+    let and_gates = circuit.and_count() as usize;
+    let mut rows = Vec::with_capacity(*labels.allocator(), and_gates)?;
+    rows.resize(and_gates, NO_ROWS)?;
+    let labels = garble_whole(circuit, ZeroTable::new(offset, first, labels), &mut rows);
+    Ok(Garbling::from_parts(labels, rows, circuit.output_wires()))
+}
+
+/// The zero labels of all wires, once all gates are garbled in this table. The row pairs are put in their places. The
+/// caller ensures that no gate is garbled yet, and that there is a place for each AND gate.
+fn garble_whole<A: Allocator, C: Allocator>(
+    circuit: &Circuit<C>,
+    table: ZeroTable<A>,
+    rows: &mut [RowPair],
+) -> Vec<Label, A>
+    requires made { table.made ≡ 0 }
+    requires waiting { table.waiting ≡ [] }
+    requires wires { length table.labels ≡ circuit.now.wires }
+    requires others { (w : ℕ) → input_wires circuit.now ≤ w → slice_index table.labels w ≡ 0 }
+    requires places { length rows.old ≡ and_count circuit.now }
+    ensures { IsGarbledFrom table.offset (slice_index table.labels) table.first circuit.now (record {
+      zero_labels = result.items;
+      rows = rows.new;
+      outputs = output_wires circuit.now;
+    }) }
+{
+    circuit.law_lawful();
+    let (table, _) = garble_piece(circuit, table, 0, rows);
+    let (labels, _) = table.finish(rows);
+    labels
+}
+
+/// The table after the gates from `from` on, until each place has a row pair, and up to the next AND gate or the end;
+/// and the place of that gate in the file. The caller ensures that there are as many gates, that those before are
+/// garbled in the table, and that no row pair of the piece is made.
+pub(crate) fn garble_piece<A: Allocator, C: Allocator>(
+    circuit: &Circuit<C>,
+    mut table: ZeroTable<A>,
+    from: u32,
+    rows: &mut [RowPair],
+) -> (ZeroTable<A>, u32)
+    requires begun { IsSomePiece circuit.now from table (rows_made table rows.old) }
+    requires none { table.made + length table.waiting ≡ 0 }
+    requires gates { from ≤ length circuit.now.gates }
+    ensures garbled { GarblesOn circuit.now from result.1 table (rows_made table rows.old)
+        result.0 (rows_made result.0 rows.new) }
+    ensures rest { KeepsFrom (result.0.made + length result.0.waiting) rows.old rows.new }
+    ensures ends { EndsPiece circuit.now from (length rows.old) result.1 }
+{
+    circuit.law_lawful();
+    let mut left = rows.len();
+    for i in from..circuit.gates() {
+        let gate = circuit.gate(i);
+        let Some(after) = left_after(left, gate.operation) else {
+            return (table, i);
+        };
+        left = after;
+        table.step(rows, gate);
     }
-    Ok(table)
+    (table, circuit.gates())
 }

@@ -17,6 +17,12 @@ pub struct RowPair {
     pub evaluator: Label,
 }
 
+/// What stands in the place of a row pair that isn't made yet.
+pub(crate) const NO_ROWS: RowPair = RowPair {
+    generator: Label::ZERO,
+    evaluator: Label::ZERO,
+};
+
 /// What garbling an AND gate gives.
 #[derive(Clone, Copy, PartialEq, Eq, Debug)]
 pub struct GarbledAnd {

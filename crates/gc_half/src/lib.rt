@@ -24,19 +24,18 @@
 mod active_labels;
 mod active_table;
 mod bit_label;
+mod compare;
 mod entry;
 mod evaluate;
 mod first;
 mod four;
 mod garble;
 mod garbling;
-mod garbling_table;
 mod half_gate;
 mod hash;
 mod laws;
 mod numbers;
 mod one_gate;
-mod row_table;
 mod streaming_evaluator;
 mod streaming_garbler;
 mod table;
@@ -47,11 +46,12 @@ mod zero_table;
 
 pub use active_labels::input_active_labels;
 pub use bit_label::encode;
+pub use compare::garble_and_compare;
 pub use entry::{four_output_entries, output_entry};
 pub use evaluate::{evaluate_from, evaluate_labels, output_labels};
 pub use first::FirstAnd;
 pub use four::{Evaluation, Four, evaluate_four_from};
-pub use garble::{garble_and_compare, garble_from, garble_one_thread};
+pub use garble::{garble_from, garble_one_thread};
 pub use garbling::{GarbledAnd, Garbling, Mismatch, RowPair};
 pub use half_gate::{
     AndGate, AndStep, eval_and, eval_four_ands, eval_two_ands, garble_and, garble_two_ands,

@@ -1,18 +1,17 @@
 //! Evaluating a circuit in pieces: its row pairs are used as they come.
 
 ghost use Rattle.std.specs.Prelude.{◌≡◌, ◌↔◌, ◌≤◌, ◌+◌, ◌^◌, ℕ, List, [], IsTrue, length, IfOk};
-ghost use Rattle.gc_netlist.specs.Circuit.{and_count, and_number, input_wires, output_wires};
+ghost use Rattle.gc_netlist.specs.Circuit.{and_count, input_wires, output_wires};
 ghost use Rattle.gc_half.specs.Joined.{AreOutputLabels};
-ghost use Rattle.gc_half.specs.Pieces.{IsBegunEvaluator, EvaluatesOn, CanEvaluate, EndsPiece};
+ghost use Rattle.gc_half.specs.Pieces.{IsBegunEvaluator};
 ghost use Rattle.gc_half.specs.Streaming.{IsEvaluatedSoFar, IsEvaluatorOf, EvaluatesPiece};
 ghost use Rattle.gc_half.specs.declared.garbling.RowPair.{RowPair};
 
 use crate::active_labels::input_active_labels;
 use crate::active_table::ActiveTable;
-use crate::evaluate::output_labels;
+use crate::evaluate::{evaluate_piece, output_labels};
 use crate::first::FirstAnd;
 use crate::garbling::RowPair;
-use crate::streaming_garbler::left_after;
 use gc_circuit::{Circuit, Memory};
 use gc_label::Label;
 use std::alloc::{Allocator, Global};
@@ -142,32 +141,4 @@ impl<A: Allocator + Copy> StreamingEvaluator<A> {
         circuit.law_lawful();
         output_labels(circuit, &self.labels)
     }
-}
-
-/// The table after the gates from `from` on, until all these row pairs are used, and up to the next AND gate or the end;
-/// and the place of that gate in the file. The caller ensures that there are as many gates, that those before are
-/// evaluated in the table, and that there are as many AND gates left.
-fn evaluate_piece<A: Allocator, C: Allocator>(
-    circuit: &Circuit<C>,
-    mut table: ActiveTable<A>,
-    from: u32,
-    rows: &[RowPair],
-) -> (ActiveTable<A>, u32)
-    requires begun { CanEvaluate circuit.now from table }
-    requires gates { from ≤ length circuit.now.gates }
-    requires room { and_number circuit.now from + length rows.now ≤ and_count circuit.now }
-    ensures evaluated { EvaluatesOn circuit.now rows.now from result.1 table result.0 }
-    ensures ends { EndsPiece circuit.now from (length rows.now) result.1 }
-{
-    circuit.law_lawful();
-    let mut left = rows.len();
-    for i in from..circuit.gates() {
-        let gate = circuit.gate(i);
-        let Some(after) = left_after(left, gate.operation) else {
-            return (table, i);
-        };
-        table.step((rows.len() - left) as u32, rows, gate);
-        left = after;
-    }
-    (table, circuit.gates())
 }

@@ -1,21 +1,21 @@
 //! Garbling a circuit in pieces: its row pairs leave as they are made.
 
-ghost use Rattle.std.specs.Prelude.{◌≡◌, ◌↔◌, ◌<◌, ◌≤◌, ◌+◌, ◌-◌, ◌^◌, ℕ, List, [], IsTrue, Some, cond, length, min, slice_get, slice_index, take, IfOk, MatchOption, true};
-ghost use Rattle.gc_netlist.specs.Circuit.{and_count, input_wires, is_and, output_wires};
+ghost use Rattle.std.specs.Prelude.{◌≡◌, ◌↔◌, ◌<◌, ◌≤◌, ◌+◌, ◌-◌, ◌^◌, ℕ, List, [], IsTrue, Some, length, min, slice_get, slice_index, take, IfOk};
+ghost use Rattle.gc_netlist.specs.Circuit.{and_count, input_wires, output_wires};
 ghost use Rattle.gc_label.specs.Seed.{offset_of};
 ghost use Rattle.gc_half.specs.Garbling.{GarblingParts, IsGarbledFrom};
 ghost use Rattle.gc_half.specs.Joined.{output_zero_labels};
-ghost use Rattle.gc_half.specs.Pieces.{IsBegunGarbler, IsSomePiece, GarblesOn, EndsPiece};
+ghost use Rattle.gc_half.specs.Pieces.{IsBegunGarbler};
 ghost use Rattle.gc_half.specs.Streaming.{IsGarbledSoFar, IsGarblerOf, GarblesPiece, KeepsFrom, input_labels};
-ghost use Rattle.gc_half.specs.Waiting.{rows_made};
 ghost use Rattle.gc_half.specs.declared.garbling.RowPair.{RowPair};
 
 use crate::evaluate::output_labels;
 use crate::first::FirstAnd;
+use crate::garble::garble_piece;
 use crate::garbling::RowPair;
 use crate::zero_labels::{input_zero_labels, padded_labels};
 use crate::zero_table::ZeroTable;
-use gc_circuit::{Circuit, Memory, Operation};
+use gc_circuit::{Circuit, Memory};
 use gc_label::{Label, Offset, Seed, offset};
 use std::alloc::{Allocator, Global};
 use std::marker::Model;
@@ -192,6 +192,20 @@ impl<A: Allocator + Copy> StreamingGarbler<A> {
         self.labels[wire as usize]
     }
 
+    /// The zero label of each wire.
+    pub(crate) fn into_labels(self) -> Vec<Label, A>
+        ensures { result.items ≡ self.labels }
+    {
+        let StreamingGarbler {
+            offset: _,
+            first: _,
+            labels,
+            gates: _,
+            made: _,
+        } = self;
+        labels
+    }
+
     /// The zero labels of the output wires, in order: those of the garbling that [`garble_from`](crate::garble_from)
     /// returns. Their colours are the decode bits. The caller ensures that the garbler was begun with this circuit, and
     /// that all row pairs are made.
@@ -207,46 +221,4 @@ impl<A: Allocator + Copy> StreamingGarbler<A> {
         circuit.law_lawful();
         output_labels(circuit, &self.labels)
     }
-}
-
-/// The table after the gates from `from` on, until each place has a row pair, and up to the next AND gate or the end;
-/// and the place of that gate in the file. The caller ensures that there are as many gates, that those before are
-/// garbled in the table, and that no row pair of the piece is made.
-fn garble_piece<A: Allocator, C: Allocator>(
-    circuit: &Circuit<C>,
-    mut table: ZeroTable<A>,
-    from: u32,
-    rows: &mut [RowPair],
-) -> (ZeroTable<A>, u32)
-    requires begun { IsSomePiece circuit.now from table (rows_made table rows.old) }
-    requires none { table.made + length table.waiting ≡ 0 }
-    requires gates { from ≤ length circuit.now.gates }
-    ensures garbled { GarblesOn circuit.now from result.1 table (rows_made table rows.old)
-        result.0 (rows_made result.0 rows.new) }
-    ensures rest { KeepsFrom (result.0.made + length result.0.waiting) rows.old rows.new }
-    ensures ends { EndsPiece circuit.now from (length rows.old) result.1 }
-{
-    circuit.law_lawful();
-    let mut left = rows.len();
-    for i in from..circuit.gates() {
-        let gate = circuit.gate(i);
-        let Some(after) = left_after(left, gate.operation) else {
-            return (table, i);
-        };
-        left = after;
-        table.step(rows, gate);
-    }
-    (table, circuit.gates())
-}
-
-/// How many AND gates are left of a piece after an operation. None where the operation is AND and none is left.
-#[inline(always)]
-pub(crate) fn left_after(left: usize, operation: Operation) -> Option<usize>
-    ensures { MatchOption result ((is_and operation ≡ true) × (left ≡ 0))
-        (λ after. left ≡ after + cond (is_and operation) 1 0) }
-{
-    if !operation.is_and() {
-        return Some(left);
-    }
-    left.checked_sub(1)
 }

@@ -11,10 +11,10 @@ loop-i-init g c =
     (record {
       offset = refl;
       other_offset = refl;
-      one = garbled-start h c.args.one.offset c.args.circuit.now c.args.one.labels.items lawful
-          c.requires.one;
+      one = garbled-start h c.args.one.offset c.args.circuit.now c.args.one.labels.items
+          (omega (arith, c.requires.one)) (omega (arith, c.requires.one, lawful.inputs_fit));
       other = garbled-start h c.args.other.offset c.args.circuit.now c.args.other.labels.items
-          lawful c.requires.other;
+          (omega (arith, c.requires.other)) (omega (arith, c.requires.other, lawful.inputs_fit));
     })
 
 pub step-requires-clause-read : goal.step-requires-clause-read

@@ -1,6 +1,6 @@
 use Rattle.gc_half.proofs.Names.{◌≡◌, ◌+◌, ◌≤◌, length, and_number}
 use Rattle.gc_half.specs.Pieces.{CanEvaluate, EvaluatesOn}
-use Rattle.gc_half.proofs.streaming_evaluator.evaluate_piece.Given as goal
+use Rattle.gc_half.proofs.evaluate.evaluate_piece.Given as goal
 
 abbrev pub invariant-loop-i : goal.invariant-loop-i
 invariant-loop-i g l = record {

@@ -6,7 +6,7 @@ use Rattle.gc_half.specs.Evaluation.{active_rule}
 use Rattle.gc_half.proofs.CircuitLaw.{active_local}
 use Rattle.gc_half.proofs.PieceLemmas.{active_of-later, and_number-next, counted, ends-before, ends-last}
 use Rattle.gc_half.proofs.StreamingLemmas.{ands-few}
-use Rattle.gc_half.proofs.streaming_evaluator.evaluate_piece.Goals as goal
+use Rattle.gc_half.proofs.evaluate.evaluate_piece.Goals as goal
 
 pub loop-i-init : goal.loop-i-init
 loop-i-init g c = record {

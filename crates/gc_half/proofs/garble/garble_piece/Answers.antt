@@ -1,7 +1,7 @@
 use Rattle.gc_half.proofs.Names.{◌≡◌, ◌<◌, length, refl, ◌∙◌, arith, IsSetBefore, EachRead-map}
 use Rattle.gc_half.proofs.AndNumbers.{and_number-le}
 use Rattle.gc_half.proofs.PieceLemmas.{and_number-next, ends-before, ends-last, piece-count, piece-next}
-use Rattle.gc_half.proofs.streaming_garbler.garble_piece.Goals as goal
+use Rattle.gc_half.proofs.garble.garble_piece.Goals as goal
 
 pub loop-i-init : goal.loop-i-init
 loop-i-init g c = record {
