@@ -108,8 +108,8 @@ module _ (c : Netlist) (lawful : IsLawful c) (t : ZeroTableParts)
         (record { zero_labels = new.labels; rows = piece; outputs = output_wires c })
     whole-garbled others =
         garbled-whole t.first t.offset c t.labels lawful others new.labels piece _
-        whole-after.wires (rw (ends.whole (omega (arith, ends.number, many))) at whole-after.garbled)
-        refl
+        whole-after.wires
+        (rw (ends.whole (omega (arith, ends.number, many))) at whole-after.garbled) refl
 
 -- The zero labels under a seed, wire by wire.
 input_labels-at : (c : Netlist) (seed : List ℕ) (w : ℕ)

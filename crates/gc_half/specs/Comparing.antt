@@ -27,8 +27,8 @@ pub record HasLabels (c : Netlist) (seed : List ℕ) (g : GarblingParts) : Type 
 
 -- The first n row pairs are made, in the places of given ones, and compared with these: this is their first mismatch.
 -- The others are the given ones.
-pub record AreCompared (given : List RowPair) (n : ℕ) (rows : List RowPair) (found : Option Mismatch)
-    : Type 0 where
+pub record AreCompared (given : List RowPair) (n : ℕ) (rows : List RowPair)
+    (found : Option Mismatch) : Type 0 where
   pub left : drop n rows ≡ drop n given
   pub first : MatchOption found (take n given ≡ take n rows) (IsFirstMismatch given (take n rows))
 

@@ -83,11 +83,12 @@ fn garble_whole<A: Allocator, C: Allocator>(
     requires wires { length table.labels ≡ circuit.now.wires }
     requires others { (w : ℕ) → input_wires circuit.now ≤ w → slice_index table.labels w ≡ 0 }
     requires places { length rows.old ≡ and_count circuit.now }
-    ensures { IsGarbledFrom table.offset (slice_index table.labels) table.first circuit.now (record {
-      zero_labels = result.items;
-      rows = rows.new;
-      outputs = output_wires circuit.now;
-    }) }
+    ensures { IsGarbledFrom table.offset (slice_index table.labels) table.first circuit.now
+        (record {
+          zero_labels = result.items;
+          rows = rows.new;
+          outputs = output_wires circuit.now;
+        }) }
 {
     circuit.law_lawful();
     let (table, _) = garble_piece(circuit, table, 0, rows);

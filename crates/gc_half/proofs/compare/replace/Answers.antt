@@ -14,7 +14,8 @@ loop-i-preserved c =
     let next : c.args.from + (i + 1) ≡ place + 1 = omega arith in
     let below : place < length rows = omega (arith, c.requires, c.loop-i.auto.rows) in
     let more : take (i + 1) piece ≡ take i piece ++ made ∷ [] =
-    take_more piece i made (omega arith) ∙ ap (λ x. take i piece ++ x ∷ []) (sym c.index-piece-i.is) in
+    take_more piece i made (omega arith)
+    ∙ ap (λ x. take i piece ++ x ∷ []) (sym c.index-piece-i.is) in
     rw next (record {
       made = take_more_set rows place made below
           ∙ ap (λ l. l ++ made ∷ []) c.loop-i.invariant.made

@@ -8,8 +8,8 @@ use Rattle.gc_half.proofs.evaluate.evaluate_from.Goals as goal
 
 pub evaluate_piece-active-requires-clause-begun : goal.evaluate_piece-active-requires-clause-begun
 evaluate_piece-active-requires-clause-begun g c = record {
-  wires = rw c.new.ensures.labels
-      (length-table _ c.args.circuit.now.wires _ (rw c.wires.ensures.count at c.in_ok-labels.ensures));
+  wires = rw c.new.ensures.labels (length-table _ c.args.circuit.now.wires _
+      (rw c.wires.ensures.count at c.in_ok-labels.ensures));
   waiting = λ w unset. rw c.new.ensures.waiting tt;
 }
 
