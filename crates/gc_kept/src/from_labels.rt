@@ -6,7 +6,8 @@ ghost use Rattle.gc_kept.specs.Labels.{AreEvaluatedTo, HasLabelsEvalFault, AreDe
 use crate::bits::{read_bits, write_bits};
 use crate::circuit::KeptCircuit;
 use crate::fault::KeptFault;
-use crate::label_bytes::{has_room, write_labels};
+use crate::label_bytes::write_labels;
+use crate::room::has_room;
 use gc_file::sizes::{LABEL, PAIR};
 use gc_file::{labels_from_bytes, rows_from_bytes};
 use gc_half::{FirstAnd, evaluate_labels};

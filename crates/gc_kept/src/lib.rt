@@ -24,6 +24,7 @@ mod label_files;
 mod many;
 mod open;
 mod plain;
+mod room;
 mod values;
 mod version;
 mod wires;

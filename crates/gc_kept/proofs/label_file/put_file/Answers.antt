@@ -1,4 +1,4 @@
-use Rattle.std.proofs.Common.{◌≡◌, ◌∙◌, ◌++◌, length, take, refl, ap, arith}
+use Rattle.std.proofs.Common.{◌∙◌, ◌++◌, length, take, refl, ap, arith}
 use Rattle.gc_kept.proofs.PieceLemmas.{put_end, label_file-is}
 use Rattle.gc_kept.proofs.label_file.put_file.Goals as goal
 

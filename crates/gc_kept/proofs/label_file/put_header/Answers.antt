@@ -1,4 +1,4 @@
-use Rattle.std.proofs.Common.{◌≡◌, ◌∙◌, length, sym, ap, arith}
+use Rattle.std.proofs.Common.{◌∙◌, length, sym, ap}
 use Rattle.std.proofs.lemmas.List.{take_at, length-take-le}
 use Rattle.gc_kept.proofs.PieceLemmas.{length-header}
 use Rattle.gc_kept.proofs.label_file.put_header.Goals as goal

@@ -1,4 +1,4 @@
-use Rattle.std.proofs.Common.{◌≡◌, ◌∙◌, length, sym, ap, arith}
+use Rattle.std.proofs.Common.{length, sym, ap, arith}
 use Rattle.gc_netlist.specs.Circuit.{and_count, input_wires}
 use Rattle.gc_kept.proofs.PieceLemmas.{length-labels, length-rows, length-outputs-of}
 use Rattle.gc_kept.proofs.circuit.KeptCircuit.evaluate_labels.Goals as goal

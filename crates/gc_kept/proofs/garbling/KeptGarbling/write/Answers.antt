@@ -1,4 +1,4 @@
-use Rattle.std.proofs.Common.{◌≡◌, ◌∙◌, length, refl, ap, arith}
+use Rattle.std.proofs.Common.{length}
 use Rattle.std.proofs.lemmas.Result.{err_from_is_err_and}
 use Rattle.gc_kept.proofs.LabelFileLemmas.{lacks_file_room}
 use Rattle.gc_kept.proofs.garbling.KeptGarbling.write.Goals as goal
