@@ -101,31 +101,3 @@ wrong_among offset all zeros first count bytes is long w =
       at = w.at;
       wrong = λ bit same. w.wrong bit (same ∙ ap (λ z. encode offset z bit) (sym zero));
     }
-
--- Labels stand for bits by the zero labels of the wires of a value, and so by those of all wires.
-pub encoded_among : (offset : ℕ) (all zeros : List ℕ) (first : ℕ) (bits : List Bool)
-    → zeros ≡ take (length bits) (drop first all)
-    → encoded_with offset (slice_index zeros) 0 bits
-    ≡ encoded_with offset (slice_index all) first bits
-encoded_among offset all zeros first bits is = shift 0 first bits (λ i below.
-    let place : 0 + i ≡ i = omega arith in
-    rw (place, is) (get_or-take (length bits) (drop first all) i 0 below
-    ∙ get_or-drop first all i 0))
-  where
-    shift : (a b : ℕ) (bits : List Bool)
-        → ((i : ℕ) → i < length bits → slice_index zeros (a + i) ≡ slice_index all (b + i))
-        → encoded_with offset (slice_index zeros) a bits
-        ≡ encoded_with offset (slice_index all) b bits
-    shift a b [] same = refl
-    shift a b (bit ∷ bits) same =
-        let at_a : a ≡ a + 0 = omega arith in
-        let at_b : b + 0 ≡ b = omega arith in
-        let here : slice_index zeros a ≡ slice_index all b =
-        ap (slice_index zeros) at_a ∙ same 0 (omega arith) ∙ ap (slice_index all) at_b in
-        let rest : encoded_with offset (slice_index zeros) (a + 1) bits
-        ≡ encoded_with offset (slice_index all) (b + 1) bits =
-        shift (a + 1) (b + 1) bits (λ i below.
-        let left : a + 1 + i ≡ a + (i + 1) = omega arith in
-        let right : b + 1 + i ≡ b + (i + 1) = omega arith in
-        rw (left, right) (same (i + 1) (omega (arith, below)))) in
-        rw (here, rest) refl

@@ -12,7 +12,6 @@ use crate::bits::bit_byte;
 use crate::fault::KeptFault;
 use crate::garbling::KeptGarbling;
 use crate::room::has_room;
-use crate::values::first_output;
 use gc_file::sizes::LABEL;
 use gc_half::encode;
 use gc_label::{Label, Offset};
@@ -28,11 +27,9 @@ impl KeptGarbling {
         ensures fault { IfErr result (HasOpenFault self.now index labels.now (length bits.old)) }
         ensures unwritten { OnErr result (bits.new ≡ bits.old) }
     {
-        self.law_garbled();
         self.law_coloured();
         let width = self.circuit().output_width(index)?;
-        let from = first_output(self.circuit().circuit(), index as usize) as usize;
-        let zero_labels = self.zero_labels_from(from, width);
+        let zero_labels = self.output_zero_labels(index, width);
         if labels.len() != LABEL * zero_labels.len() {
             return Err(KeptFault::WrongSize);
         }

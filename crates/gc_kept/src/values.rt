@@ -21,7 +21,7 @@ use gc_label::Label;
 use std::alloc::Allocator;
 
 /// The first wire of the output value with this index. The caller ensures that there are at least as many values.
-pub(crate) fn first_output<A: Allocator>(circuit: &Circuit<A>, index: usize) -> u32
+fn first_output<A: Allocator>(circuit: &Circuit<A>, index: usize) -> u32
     requires { index ≤ length circuit.now.output_widths }
     ensures { result ≡ first_output_of circuit.now index }
 {
@@ -68,10 +68,8 @@ impl KeptGarbling {
         ensures zero_unwritten { OnErr result (zero.new ≡ zero.old) }
         ensures one_unwritten { OnErr result (one.new ≡ one.old) }
     {
-        self.law_garbled();
         let width = self.circuit().output_width(index)?;
-        let from = first_output(self.circuit().circuit(), index as usize) as usize;
-        self.write_both(self.zero_labels_from(from, width), zero, one)
+        self.write_both(self.output_zero_labels(index, width), zero, one)
     }
 
     /// The zero labels of the input value with this index. The caller ensures that this is its width.
@@ -86,8 +84,20 @@ impl KeptGarbling {
         self.zero_labels_from(from, width)
     }
 
+    /// The same of the output value with this index.
+    pub(crate) fn output_zero_labels(&self, index: u32, width: usize) -> &[Label]
+        requires { slice_get self.now.circuit.output_widths index ≡ Some width }
+        ensures labels { result.now
+            ≡ zero_labels_from self.now (first_output_of self.now.circuit index) width }
+        ensures count { length result.now ≡ width }
+    {
+        self.law_garbled();
+        let from = first_output(self.circuit().circuit(), index as usize) as usize;
+        self.zero_labels_from(from, width)
+    }
+
     /// The zero labels of `count` wires, from wire `from` on. The caller ensures that there are such wires.
-    pub(crate) fn zero_labels_from(&self, from: usize, count: usize) -> &[Label]
+    fn zero_labels_from(&self, from: usize, count: usize) -> &[Label]
         requires { from + count ≤ length self.now.garbling.zero_labels }
         ensures labels { result.now ≡ zero_labels_from self.now from count }
         ensures count { length result.now ≡ count }

@@ -5,33 +5,16 @@ use Rattle.gc_netlist.specs.Circuit.{Netlist, IsLawful}
 use Rattle.gc_file.proofs.DealLemmas.{length-encoded_with}
 use Rattle.gc_kept.specs.Garbling.{GarblingWith}
 use Rattle.gc_kept.specs.Labels.{AreLabels, first_output_of}
-use Rattle.gc_kept.proofs.LabelFileLemmas.{output-fits}
-use Rattle.gc_kept.proofs.OpenLemmas.{encoded_among, labels_spelled, length-are, wrong_among}
+use Rattle.gc_kept.proofs.LabelFileLemmas.{dealt_from}
+use Rattle.gc_kept.proofs.OpenLemmas.{labels_spelled, length-are, wrong_among}
 use Rattle.gc_kept.proofs.garbling.KeptGarbling.open.Goals as goal
-
--- The first wire of an output value, by equal circuits.
-first_is : (index from : ℕ) (n m k : Netlist) → from ≡ first_output_of n index → n ≡ m → m ≡ k
-    → from ≡ first_output_of k index
-first_is index from n m k is same equal = is ∙ ap (λ c. first_output_of c index) (same ∙ equal)
-
-pub zero_labels_from-zero_labels-requires : goal.zero_labels_from-zero_labels-requires
-zero_labels_from-zero_labels-requires c =
-    let g = c.args.self.now in
-    let lawful : IsLawful g.circuit = rw c.circuit-2.ensures at c.circuit-3.ensures.lawful in
-    let from = first_is c.args.index _ _ _ _ c.first_output-from.ensures c.circuit-3.ensures.same
-    c.circuit-2.ensures in
-    let at = rw c.circuit.ensures at c.in_ok-width.ensures.ok in
-    rw from (output-fits g.circuit lawful g.garbling c.law_garbled.ensures.wires c.args.index
-    c.in_ok-width.width at)
 
 pub returns-then-not-are_right-clause-fault : goal.returns-then-not-are_right-clause-fault
 returns-then-not-are_right-clause-fault c =
     let g = c.args.self.now in
     let bytes = c.args.labels.now in
     let width = c.in_ok-width.width in
-    let zeros = c.zero_labels_from-zero_labels in
-    let from = first_is c.args.index _ _ _ _ c.first_output-from.ensures c.circuit-3.ensures.same
-    c.circuit-2.ensures in
+    let zeros = c.output_zero_labels-zero_labels in
     let at = rw c.circuit.ensures at c.in_ok-width.ensures.ok in
     let long : length bytes ≡ 16 * width =
     c.if-labels-zero_labels.false ∙ ap (λ n. 16 * n) zeros.ensures.count in
@@ -42,8 +25,8 @@ returns-then-not-are_right-clause-fault c =
       at,
       long,
       c.in_ok-has_room.ensures.ok,
-      rw (← from) (wrong_among g.offset g.garbling.zero_labels zeros.result.now
-          c.first_output-from.result width bytes zeros.ensures.labels long wrong),
+      (wrong_among g.offset g.garbling.zero_labels zeros.result.now
+          (first_output_of g.circuit c.args.index) width bytes zeros.ensures.labels long wrong),
     )
 
 pub returns-clause-ok : goal.returns-clause-ok
@@ -51,9 +34,7 @@ returns-clause-ok c =
     let g = c.args.self.now in
     let bytes = c.args.labels.now in
     let width = c.in_ok-width.width in
-    let zeros = c.zero_labels_from-zero_labels in
-    let from = first_is c.args.index _ _ _ _ c.first_output-from.ensures c.circuit-3.ensures.same
-    c.circuit-2.ensures in
+    let zeros = c.output_zero_labels-zero_labels in
     let at = rw c.circuit.ensures at c.in_ok-width.ensures.ok in
     let long : length bytes ≡ 16 * width =
     c.if-labels-zero_labels.false ∙ ap (λ n. 16 * n) zeros.ensures.count in
@@ -70,11 +51,11 @@ returns-clause-ok c =
     ) in
     let are = subst (AreLabels bytes) found.1 active.1 in
     let put = c.put_bits.ensures g.offset bits c.law_coloured.ensures are in
-    let moved = encoded_among g.offset g.garbling.zero_labels zeros.result.now
-    c.first_output-from.result bits (rw count zeros.ensures.labels) in
+    let moved = dealt_from g.offset g.garbling.zero_labels zeros.result.now
+    (first_output_of g.circuit c.args.index) bits (rw count zeros.ensures.labels) in
     record {
       bits = bits;
       width = at ∙ ap Some (sym count);
-      labels_are = rw (← from) (subst (AreLabels bytes) moved are);
+      labels_are = (subst (AreLabels bytes) moved are);
       buffer = rw (put, length-map, count) refl;
     }
