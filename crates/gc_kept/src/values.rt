@@ -30,7 +30,7 @@ fn first_output<A: Allocator>(circuit: &Circuit<A>, index: usize) -> u32
 }
 
 /// The sum of these widths.
-fn sum_of(widths: &[u32]) -> u32
+pub(crate) fn sum_of(widths: &[u32]) -> u32
     requires { sum widths.now < 2 ^ 32 }
     ensures { result ≡ sum widths.now }
 {
