@@ -20,6 +20,13 @@ CIRCUITS = {
     "gates that read within a thousand, half AND": "bench/make_circuit.py 1000000 0.5 FILE",
 }
 
+# The same gates in order of AND depth.
+BY_DEPTH = {
+    f"{name}, by depth": f"{command} --by-depth"
+    for name, command in CIRCUITS.items()
+    if command.startswith("examples/")
+}
+
 # Garbling and evaluating, on one thread and by one, two and four workers.
 PARTS = ["garble", "garble1", "garble2", "garble4", "job", "job1", "job2", "job4"]
 

@@ -44,8 +44,14 @@ OF_AND_GATES = (
     " | 2 hashes |\n"
 )
 
+# The heads of those that bench/streaming.py prints.
+OF_PIECES = "\n| In pieces | Garbling | of 256 | of 4,096 | Evaluating | of 256 | of 4,096 |\n"
+OF_PROCESSES = (
+    "\n| Two processes | All at once | Pipelined | Ratio | First row pair | Pipelined |\n"
+)
+
 # The tables that are printed as they are in docs/SPEED.md.
-AS_PRINTED = OF_SEVERAL, OF_AND_GATES, OF_COMMANDS, OF_JOBS
+AS_PRINTED = OF_SEVERAL, OF_AND_GATES, OF_COMMANDS, OF_JOBS, OF_PIECES, OF_PROCESSES
 
 # The part of docs/SPEED.md on circuits of a thousand to sixteen million gates, and what follows it.
 GATES_PART = f"""\

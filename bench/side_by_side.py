@@ -12,7 +12,7 @@ two to evaluate it. The third has SHA-256 of a garbled file alone, and of each o
 import sys
 import tempfile
 
-from measure import CIRCUITS, make, print_cells, print_columns, times
+from measure import BY_DEPTH, CIRCUITS, make, print_cells, print_columns, times
 
 # How long one of several side by side may take at the most, in times one alone.
 MOST = {
@@ -20,6 +20,10 @@ MOST = {
     "AES-128, 33 times": (0.91, None),
     "64 chains of AND gates": (0.6, 0.35),
 }
+
+# How long an AND gate of a circuit by depth may take at the most, in times its hashes: to garble it,
+# and to evaluate it.
+MOST_BY_DEPTH = 1.35, 1.6
 
 # A circuit without AND gates has no hashes to time.
 WITHOUT_HASHES = "independent gates, all XOR"
@@ -32,7 +36,7 @@ def main():
     rows, hashed = {}, {}
     with tempfile.TemporaryDirectory() as folder:
         file = f"{folder}/circuit"
-        for name, command in CIRCUITS.items():
+        for name, command in {**CIRCUITS, **BY_DEPTH}.items():
             if name == WITHOUT_HASHES:
                 continue
             make(command, file)
@@ -44,11 +48,22 @@ def main():
     print_columns("Nanoseconds an AND gate", *columns)
     for name, row in rows.items():
         print_cells(name, *[f"{it:.0f}" for it in row])
+    print_against_hashes({name: row for name, row in rows.items() if name in BY_DEPTH})
     print_columns("Milliseconds", "SHA-256 of a file", "Each of eight", "Ratio", "By `sha2`")
     for name, took in hashed.items():
         alone, beside, kit = took["file_sha"], took["eight_sha"] / 8, took["kit_sha"]
         cells = [f"{alone / 1e6:.2f}", f"{beside / 1e6:.2f}", f"{beside / alone:.2f}"]
         print_cells(name, *cells, f"{kit / 1e6:.2f}")
+
+
+def print_against_hashes(rows):
+    """Prints what an AND gate takes by depth, in times its hashes."""
+    most, most_evaluated = MOST_BY_DEPTH
+    for name, (garbled, _, four, evaluated, _, two) in rows.items():
+        print(
+            f"{name}: {garbled / four:.2f} times the hashes to garble (at most {most}),"
+            f" {evaluated / two:.2f} to evaluate (at most {most_evaluated})"
+        )
 
 
 def print_ratios(name, took):

@@ -12,7 +12,7 @@ import tempfile
 from concurrent.futures import ThreadPoolExecutor
 from statistics import mean
 
-from measure import CIRCUITS, PARTS, make, print_row, print_times, times
+from measure import BY_DEPTH, CIRCUITS, PARTS, make, print_row, print_times, times
 
 # How many times as fast as one part another is to be, at the least.
 TARGETS = [
@@ -36,7 +36,7 @@ def print_table(bench, file):
     took = {}
     print_row("milliseconds", "", "", "garbling", "", "", "", "evaluating")
     print_row("circuit", "gates", "AND", *2 * ["thread", "1", "2", "4"])
-    for name, command in CIRCUITS.items():
+    for name, command in {**CIRCUITS, **BY_DEPTH}.items():
         make(command, file)
         took[name] = times(bench, file, 5, *PARTS)
         print_times(name, took[name])

@@ -48,6 +48,16 @@ def many_ands(count):
     return text_of([count, count], [count], gates)
 
 
+def chain_of_ands(count):
+    """A circuit of two values of eight wires, and at least this many AND gates, more than a piece of the examples has:
+    the conjunction of the two, again and again with the second one."""
+    steps = -(-count // 8)
+    return text_of([8, 8], [8], [
+        f"2 1 {bit + (8 + 8 * step if step else 0)} {8 + bit} {16 + 8 * step + bit} AND"
+        for step in range(steps) for bit in range(8)
+    ])
+
+
 def respelled(draw, text):
     """The text with other blanks and more leading zeros."""
     blanks = " ", "  ", "\n", "\t", "\r\n", " \r\t\n "

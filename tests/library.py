@@ -4,6 +4,8 @@ The library lies in the folder that the environment variable HALFGATES_LIB_DIR n
 where ./build made it since the release, or else in dist/. HALFGATES_LIBRARY names another shared one.
 """
 import os
+import platform
+import re
 import shutil
 import subprocess
 import sys
@@ -35,15 +37,15 @@ def folder_of_library():
     return Path(named or (BUILT if ask("machine.sh", is_built)[0] == 0 else released)).resolve()
 
 
-def shared_library(folder):
-    """The shared library of a folder for this processor, as the loader of glibc finds it."""
-    newer = folder / "glibc-hwcaps/x86-64-v3" / SONAME
-    return newer if newer.is_file() and ask("machine.sh", "is_v3")[0] == 0 else folder / SONAME
-
-
 LIB_DIR = folder_of_library()
-LIBRARY = Path(os.environ.get("HALFGATES_LIBRARY") or shared_library(LIB_DIR)).resolve()
+LIBRARY = Path(os.environ.get("HALFGATES_LIBRARY") or LIB_DIR / SONAME).resolve()
 ARCHIVE = LIB_DIR / "libhalfgates.a"
+
+# An instruction that no x86-64 processor has, ud2.
+INVALID_INSTRUCTION = bytes.fromhex("0f0b")
+
+# The levels of x86-64 for which the library has code that this processor runs.
+LEVELS = (2, 3) if ask("machine.sh", "is_v3")[0] == 0 else (2,)
 
 
 @lru_cache(maxsize=None)
@@ -56,6 +58,29 @@ def demand_library():
         stamp, sources = BUILT / f"{SONAME}.sources", ask("sources.sh", "sum_of_sources halfgates_c")[1]
         if not stamp.is_file() or stamp.read_text().strip() != sources:
             raise Missing("out/lib/ is older than the sources: ./build halfgates_c makes it anew")
+
+
+def places_in_library():
+    """Where the file of the shared library under test has its functions and objects, by name."""
+    words = [tool("readelf"), "--wide", "--sections", "--symbols", LIBRARY]
+    said = subprocess.run(words, capture_output=True, text=True, check=True).stdout
+    sections = re.findall(r"\[ *(\d+)\] \.\S+ +\w+ +(\w+) (\w+) ", said)
+    shifts = {section: int(offset, 16) - int(address, 16) for section, address, offset in sections}
+    symbols = re.findall(r": (\w+) +\d+ (?:FUNC|OBJECT) +\w+ +\w+ +(\d+) (\S+)$", said, re.M)
+    return {name: int(address, 16) + shifts[section] for address, section, name in symbols}
+
+
+def write_with_code(level, file, is_forced=True):
+    """Writes a copy of the shared library under test in which only its code for this level of x86-64 works, 2 or 3. It
+    uses that code, or else the one that it chooses by itself. For other processors it has one code."""
+    data = bytearray(LIBRARY.read_bytes())
+    if platform.machine() == "x86_64":
+        places = places_in_library()
+        for place in (places[name] for name in places if name.startswith(f"v{5 - level}_halfgates_")):
+            data[place : place + 2] = INVALID_INSTRUCTION
+        assert data[places["level"]] == 1
+        data[places["level"]] = level if is_forced else 1
+    file.write_bytes(data)
 
 
 def import_package():
@@ -88,7 +113,7 @@ def compiler(suffix):
 
 
 def build(source, program, *flags, library=ARCHIVE):
-    """Compiles a source and links it with the archive, or with another library. Warnings are errors."""
+    """Compiles a source and links it with the archive, or with another library or source. Warnings are errors."""
     command, standard = compiler(source.suffix)
     words = [command, standard, *WARNINGS, f"-I{INCLUDE}", *flags, "-o", program, source, library]
     done = subprocess.run(words, capture_output=True, text=True, check=False)
@@ -97,13 +122,13 @@ def build(source, program, *flags, library=ARCHIVE):
 
 
 @lru_cache(maxsize=None)
-def sanitizers(suffix):
+def sanitizers(suffix, flags=SANITIZERS):
     """The sanitizers' flags, where the compiler of these sources has them and what it makes runs."""
     command, _ = compiler(suffix)
     with tempfile.TemporaryDirectory() as folder:
         source, program = Path(folder, f"empty{suffix}"), Path(folder, "empty")
         source.write_text("int main(void) { return 0; }\n")
-        words = [command, *SANITIZERS, "-o", program, source]
+        words = [command, *flags, "-o", program, source]
         is_built = subprocess.run(words, capture_output=True, check=False).returncode == 0
         is_run = is_built and subprocess.run([program], capture_output=True, check=False).returncode == 0
-    return SANITIZERS if is_run else ()
+    return flags if is_run else ()

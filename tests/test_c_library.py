@@ -10,10 +10,10 @@ import unittest
 from pathlib import Path
 from shutil import which
 
-from inputs import draws, respelled, worked_circuits
+from inputs import chain_of_ands, draws, respelled, worked_circuits
 from library import (
-    ARCHIVE, INCLUDE, LIB_DIR, LIBRARY, SONAME, WARNINGS, build, compiler, demand_library, environment_of_python,
-    sanitizers, shared_library, tool,
+    ARCHIVE, INCLUDE, LEVELS, LIB_DIR, LIBRARY, SONAME, WARNINGS, build, compiler, demand_library,
+    environment_of_python, sanitizers, tool, write_with_code,
 )
 from program import EXAMPLES, TOP, sealed
 from test_workers import layered
@@ -68,7 +68,7 @@ def stack_of_header():
 
 def declared_codes():
     """The codes of the header, by name."""
-    header = (INCLUDE / "halfgates.h").read_text()
+    header = (INCLUDE / "halfgates.h").read_text().partition("typedef")[0]
     return {name: int(code) for name, code in re.findall(r"^    HALFGATES_(\w+) = (\d+)", header, re.M)}
 
 
@@ -78,6 +78,13 @@ class LibraryTest(unittest.TestCase):
         folder = tempfile.TemporaryDirectory()
         self.addCleanup(folder.cleanup)
         self.folder = Path(folder.name)
+
+    def library_with_code(self, level, **how):
+        """A copy of the shared library, in a folder of its own, of which only the code for this level works."""
+        folder = self.folder / f"level{level}"
+        folder.mkdir()
+        write_with_code(level, folder / SONAME, **how)
+        return folder / SONAME
 
     def run_built(self, source, *words, flags=()):
         """Compiles a source with the sanitizers, runs it, and returns what it prints."""
@@ -113,8 +120,14 @@ class FromC(LibraryTest):
     def test_bad_arguments(self):
         self.run_built(SOURCES / "arguments.c")
 
+    def test_gates(self):
+        self.run_built(SOURCES / "gates.c")
+
     def test_labels(self):
         self.run_built(SOURCES / "labels.c")
+
+    def test_streaming(self):
+        self.run_built(SOURCES / "streaming.c")
 
     def test_null_with_a_size(self):
         self.run_built(SOURCES / "null.c")
@@ -140,7 +153,7 @@ class FromC(LibraryTest):
         """Each call keeps within the kilobytes that the header names, which aren't twice what it needs."""
         said, others = stack_of_header()
         program, most = self.folder / "stack", {}
-        for library in (ARCHIVE, LIBRARY):
+        for library in (ARCHIVE, *map(self.library_with_code, LEVELS)):
             build(SOURCES / "stack.c", program, f"-Wl,-rpath,{library.parent}", library=library)
             done = subprocess.run([program, EXAMPLES / "adder64.txt"], capture_output=True, text=True, check=True)
             for name, size in map(str.split, done.stdout.splitlines()):
@@ -150,6 +163,20 @@ class FromC(LibraryTest):
             self.assertLessEqual(size, 1000 * said.get(name, others), name)
         for name, kilobytes in said.items():
             self.assertLess(1000 * kilobytes, 2 * most[name], name)
+
+    def test_memory_of_handles(self):
+        """The bytes of each handle are those that the documents give, and it takes little more while it is made."""
+        page = (TOP / "docs/LIBRARY.md").read_text().partition("## Memory\n")[2].partition("\n## ")[0]
+        rows = re.findall(r"^\| (\w+) \| (\d+) \| (\d+) \| (\d+) \| (\d+) \|$", page, re.M)
+        said = {handle: [int(it) for it in figures] for handle, *figures in rows}
+        program, found = self.folder / "sizes", {}
+        build(SOURCES / "sizes.c", program, *WRAPPED)
+        for line in subprocess.run([program], capture_output=True, text=True, check=True).stdout.splitlines():
+            handle, *words = line.split()
+            found[handle] = [int(it) for it in words[1::3]]
+            for kept, peak in zip(found[handle], map(int, words[2::3])):
+                self.assertLessEqual(peak, kept + 16, line)
+        self.assertEqual(found, said)
 
     def test_a_million_gates(self):
         self.run_built(SOURCES / "million.c")
@@ -164,7 +191,7 @@ class FromC(LibraryTest):
                     self.assertEqual(said, "", (source.name, command, level))
 
     def test_files_that_the_examples_cannot_read(self):
-        for name, words in (("two_parties", "7 9"), ("sha256_chain", "abc")):
+        for name, words in (("two_parties", "7 9"), ("pipelined", "7 9"), ("sha256_chain", "abc")):
             program = self.folder / name
             build(EXAMPLES / f"c/{name}.c", program)
             for place, said in ((self.folder, "Is a directory"), (self.folder / "none", "No such file or directory")):
@@ -180,6 +207,16 @@ class FromC(LibraryTest):
         self.assertEqual(self.run_built(example, *words), f"{sum_of_both}\n")
 
 
+    def test_pipelined(self):
+        example, less8 = EXAMPLES / "c/pipelined.c", EXAMPLES / "less8.txt"
+        self.assertEqual(self.run_built(example, less8, "7", "9"), "1\n")
+        self.assertEqual(self.run_built(example, less8, "9", "7"), "0\n")
+        several = self.folder / "several"
+        several.write_text(chain_of_ands(10_000))
+        self.assertEqual(self.run_built(example, several, "255", "255"), "255\n")
+        self.assertEqual(self.run_built(example, several, "191", "255"), "191\n")
+
+
 # What the C++ header keeps a program from: each would compile with an earlier version of it.
 MISUSES = {
     "a view of a list": "halfgates::view bits{1, 1};",
@@ -190,6 +227,9 @@ MISUSES = {
     "a seed of a list": "auto garbling = circuit.garble({{3}});",
     "outputs dropped": "circuit.plain({1, 1});",
     "a garbling dropped": "circuit.garble(halfgates::seed::random());",
+    "a garbler dropped": "circuit.garbler(halfgates::seed::random());",
+    "how much was taken dropped": "circuit.evaluator(0, {}).feed({});",
+    "a copy of a garbler": "halfgates::garbler one; halfgates::garbler other = one;",
     "a copy of a handle": "halfgates::circuit other = circuit;",
 }
 
@@ -284,7 +324,7 @@ class Files(LibraryTest):
         words = [program, EXAMPLES / "less8.txt", "1", "2"]
         done = subprocess.run(words, env=environment, capture_output=True, text=True, check=False)
         self.assertEqual((done.returncode, done.stdout), (0, "1\n"))
-        self.assertIn(f"calling init: {shared_library(LIB_DIR)}\n", done.stderr)
+        self.assertIn(f"calling init: {LIB_DIR / SONAME}\n", done.stderr)
 
     def test_arm64(self):
         """The example runs on the library for ARM64, where there is an emulator."""

@@ -4,6 +4,7 @@ import sys
 import unittest
 from hashlib import sha256
 
+from inputs import chain_of_ands
 from library import build, environment_of_python, import_package
 from program import EXAMPLES
 from test_c_library import LibraryTest
@@ -92,7 +93,7 @@ class Chains(ExampleTest):
     def test_labels_of_the_next_block(self):
         """No label of a block, nor its partner under the offset, is a label of the block before."""
         garbler = sha256_chain.Garbler(halfgates.Circuit.open(self.circuit))
-        (_, first, *_), (_, second, *_) = garbler.messages(64 * b"x")
+        first, second = ((*pieces, labels)[-1] for pieces, labels, _ in garbler.messages(64 * b"x"))
         for one, other in zip(pieces(first), pieces(second)):
             difference = bytes(a ^ b for a, b in zip(one, other))
             self.assertNotIn(difference, (bytes(LABEL), garbler.offset))
@@ -113,9 +114,9 @@ class Chains(ExampleTest):
 
 
 class TwoProcesses(ExampleTest):
-    def run_parties(self, circuits, numbers):
+    def run_parties(self, circuits, numbers, *words):
         socket = str(self.folder / "socket")
-        parties = [self.start("two_processes.py", party, socket, circuit, str(number))
+        parties = [self.start("two_processes.py", party, socket, circuit, str(number), *words)
                    for party, circuit, number in zip(("garbler", "evaluator"), circuits, numbers)]
         return [self.ending(party) for party in parties]
 
@@ -132,6 +133,20 @@ class TwoProcesses(ExampleTest):
                 garbler, evaluator = self.run_parties([circuit, circuit], [first, second])
                 self.assertEqual(garbler, (0, f"{first & second}\n", ""))
                 self.assertEqual(evaluator, (0, f"{(first ^ second) + 2 * second}\n", ""))
+
+    def test_several_pieces(self):
+        circuit = self.folder / "circuit"
+        circuit.write_text(chain_of_ands(3 * two_processes.PIECE + 8))
+        for first, second in ((255, 255), (255, 170), (15, 60)):
+            answer = f"{first & second}\n"
+            self.assertEqual(self.run_parties([circuit, circuit], [first, second]), [(0, answer, "")] * 2)
+
+    def test_times(self):
+        less8 = EXAMPLES / "less8.txt"
+        parties = self.run_parties([less8, less8], [7, 9], "--times")
+        for name, (status, printed, error) in zip(("garbler", "evaluator"), parties):
+            self.assertEqual((status, printed), (0, "1\n"))
+            self.assertRegex(error, rf"^{name}: \d+ ms\n$")
 
     def test_numbers_that_have_too_many_bits(self):
         less8 = EXAMPLES / "less8.txt"

@@ -7,6 +7,7 @@ import unittest
 
 from program import (
     AND, PROGRAM, SEED, XOR, ProgramTest, fails, label_file, sealed)
+from test_progress import read_piece
 
 import bristol
 import reference
@@ -453,7 +454,7 @@ class Explain(ProgramTest):
         subprocess.run(
             [PROGRAM, "check", "bad.txt"], cwd=self.folder, stderr=terminal, timeout=60, check=False)
         os.close(terminal)
-        printed = os.read(shown, 4096).decode().replace("\r\n", "\n")
+        printed = b"".join(iter(lambda: read_piece(shown), b"")).decode().replace("\r\n", "\n")
         os.close(shown)
         line = "halfgates: bad.txt:1:3: expected a number from 0 to 4294967295\n"
         self.assertEqual(printed, fails("2 BadNumber")[2] + line)

@@ -81,8 +81,7 @@ class InstallTest(unittest.TestCase):
     def test_files(self):
         self.install()
         installed = self.files()
-        for name in ("include/halfgates.h", "include/halfgates.hpp", f"lib/{SONAME}", "lib/libhalfgates.a",
-                     f"lib/glibc-hwcaps/x86-64-v3/{SONAME}"):
+        for name in ("include/halfgates.h", "include/halfgates.hpp", f"lib/{SONAME}", "lib/libhalfgates.a"):
             self.assertEqual(installed[name], (RELEASE / name).read_bytes(), name)
         for name in LICENSES:
             self.assertEqual(installed[f"share/doc/halfgates/{name}"], (TOP / name).read_bytes())
@@ -282,14 +281,18 @@ class InstallTest(unittest.TestCase):
         os.utime(built / SONAME, (later, later))
 
     def test_what_was_built_since_the_release(self):
-        """The library of out/lib/ with its headers, in the place of the release's, also of the faster one."""
+        """The library of out/lib/ with its headers, in the place of the release's. One that an earlier release had for
+        newer processors is gone."""
         self.install()
+        earlier = self.prefix / "lib/glibc-hwcaps/x86-64-v3" / SONAME
+        earlier.parent.mkdir(parents=True)
+        earlier.touch()
         self.pretend_to_build()
         self.install()
         installed = self.files()
         self.assertTrue(installed[f"lib/{SONAME}"].endswith(b"built"))
         self.assertTrue(installed["include/halfgates.hpp"].endswith(b"/* later */\n"))
-        self.assertNotIn(f"lib/glibc-hwcaps/x86-64-v3/{SONAME}", installed)
+        self.assertFalse(earlier.exists())
 
     def test_a_header_that_changed_since_the_build(self):
         self.pretend_to_build()
@@ -327,15 +330,13 @@ class InstallTest(unittest.TestCase):
 
 @unittest.skipUnless(IS_RELEASE, "the library under test is not that of a release")
 class Processors(unittest.TestCase):
-    """Each file of a release is for its own kind of processor. Those for x86-64-v3 use registers of AVX."""
+    """Each program of a release is for its own kind of processor. That for x86-64-v3 uses registers of AVX."""
 
     def test_instructions(self):
-        older = "halfgates", f"lib/{SONAME}", "lib/libhalfgates.a"
-        newer = "v3/halfgates", f"lib/glibc-hwcaps/x86-64-v3/{SONAME}"
-        for name in (*older, *newer):
+        for name in ("halfgates", "v3/halfgates"):
             words = [tool("objdump"), "--disassemble", "--no-show-raw-insn", RELEASE / name]
             printed = subprocess.run(words, capture_output=True, text=True, check=True).stdout
-            self.assertEqual("%ymm" in printed, name in newer, name)
+            self.assertEqual("%ymm" in printed, name == "v3/halfgates", name)
 
     @unittest.skipUnless(which("qemu-x86_64"), "there is no qemu-x86_64: the programs are not run on older processors")
     def test_older_processors(self):

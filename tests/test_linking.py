@@ -63,8 +63,8 @@ class Hardening(unittest.TestCase):
             self.assertRegex(readelf("-d", program), r"\(FLAGS_1\) .*PIE", program)
 
     def test_shadow_stacks(self):
-        """Programs and shared libraries for x86-64 are fit for them."""
-        for file in (*LIBRARIES, *PROGRAMS):
+        """Files for x86-64 are fit for them, so an archive turns nothing off in a program that uses them."""
+        for file in (*LIBRARIES, *ARCHIVES, *PROGRAMS):
             is_x86 = "X86-64" in readelf("-h", file)
             self.assertEqual("x86 feature: SHSTK" in readelf("-n", file), is_x86, file)
 

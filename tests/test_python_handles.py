@@ -12,6 +12,7 @@ import textwrap
 import threading
 import unittest
 import weakref
+from array import array
 from contextlib import ExitStack
 from unittest import mock
 
@@ -54,11 +55,17 @@ class Owners(unittest.TestCase):
         with self.circuit.garble(SEED) as garbling:
             self.garbled = garbling.write()
         self.files = [self.circuit.deal(SEED, index, bytes(WIDTH)) for index in range(2)]
+        self.labels = bytes(2 * WIDTH * 16)
+        gates = ((halfgates.Operation.INV, it, 0, 2 * WIDTH + it) for it in range(WIDTH))
+        self.gates = array("I", [number for gate in gates for number in gate])
         self.makers = {
             "circuit": lambda: Circuit.read(LARGE),
             "garbling": lambda: self.circuit.garble(SEED),
             "garbling of many": lambda: self.circuit.garble_many([SEED])[0],
             "job": lambda: self.circuit.bind(self.garbled, self.files),
+            "circuit of gates": lambda: Circuit.from_gates(self.gates, 3 * WIDTH, [2 * WIDTH], [WIDTH]),
+            "garbler": lambda: self.circuit.garbler(SEED),
+            "evaluator": lambda: self.circuit.evaluator(0, self.labels),
         }
 
     def assert_keeps_no_memory(self, use):
@@ -116,7 +123,8 @@ class Owners(unittest.TestCase):
                 make()
 
         with ExitStack() as stack:
-            for name in ("circuit_read", "garble", "garble_many", "job_bind"):
+            made = "circuit_read", "circuit_from_gates", "garble", "garble_many", "job_bind", "garbler_begin"
+            for name in (*made, "evaluator_begin"):
                 stack.enter_context(patched(name, interrupted))
             self.assert_keeps_no_memory(use)
 

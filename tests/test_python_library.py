@@ -660,7 +660,7 @@ class Codes(unittest.TestCase):
     """The codes, their names and their meanings are those of the header."""
 
     def test_they_are_those_of_the_header(self):
-        header = (TOP / "include/halfgates.h").read_text()
+        header = (TOP / "include/halfgates.h").read_text().partition("typedef")[0]
         found = re.findall(r"^ +HALFGATES_(\w+) = (\d+),? +/\* (.*?) \*/$", header, re.M | re.S)
         said = {name: (int(code), " ".join(meaning.split())) for name, code, meaning in found}
         self.assertEqual({it.name: (it, it.meaning) for it in halfgates.Code if it}, said)

@@ -60,9 +60,10 @@ class Declarations(unittest.TestCase):
         self.assertEqual(dict(functions_of_crate()), found)
 
     def test_codes(self):
-        header = re.findall(r"^ +HALFGATES_(\w+) = (\d+)", (INCLUDE / "halfgates.h").read_text(), re.M)
+        codes = (INCLUDE / "halfgates.h").read_text().partition("typedef")[0]
+        header = re.findall(r"^ +HALFGATES_(\w+) = (\d+)", codes, re.M)
         crate = re.findall(r"^ +([A-Z_]+) = (\d+) \"", (CRATE / "src/fault.rs").read_text(), re.M)
-        every = sorted([("OK", "0"), *crate, ("WRONG_LABEL", "63")], key=lambda it: int(it[1]))
+        every = sorted([("OK", "0"), *crate], key=lambda it: int(it[1]))
         self.assertEqual(every, header)
 
     def test_version(self):

@@ -16,8 +16,10 @@ from pathlib import Path
 from xml.etree import ElementTree
 
 from inputs import text_of
-from library import INCLUDE, LIB_DIR, LIBRARY, SONAME, WARNINGS, build, compiler, demand_library, sanitizers
-from program import PROGRAM, SEED, TOP, ProgramTest, ask
+from library import (
+    INCLUDE, LEVELS, LIB_DIR, SONAME, WARNINGS, build, compiler, demand_library, sanitizers, write_with_code,
+)
+from program import PROGRAM, SEED, TOP, ProgramTest
 
 SOURCES = TOP / "tests/c"
 HAS_VALGRIND = shutil.which("valgrind") and Path("/usr/include/valgrind/memcheck.h").is_file()
@@ -36,15 +38,9 @@ PUBLIC = "gc_command::lines::", "gc_command::value_form::", "gc_command::eval::"
 
 KEY, BLOCK = "x000102030405060708090a0b0c0d0e0f", "0110" * 32
 
-
-def with_others(tested, *others):
-    """A file under test, and those of the release's files that are there and that this processor runs."""
-    has_v3 = ask("machine.sh", "is_v3")[0] == 0
-    return sorted({tested, *(it for it in others if it.is_file() and (has_v3 or "v3" not in it.parent.name))})
-
-
-LIBRARIES = with_others(LIBRARY, LIB_DIR / SONAME, LIB_DIR / "glibc-hwcaps/x86-64-v3" / SONAME)
-PROGRAMS = with_others(PROGRAM, LIB_DIR.parent / "v3/halfgates")
+# The program under test, and the release's for x86-64-v3.
+NEWER = LIB_DIR.parent / "v3/halfgates"
+PROGRAMS = sorted({PROGRAM, *([NEWER] if NEWER.is_file() and 3 in LEVELS else [])})
 
 
 def compile_c(source, made, *words):
@@ -61,14 +57,14 @@ class OfTheLibrary(ProgramTest):
         demand_library()
         self.make("aes128")
         self.put("operations", OPERATIONS)
-        for i, library in enumerate(LIBRARIES):
+        for level in LEVELS:
             # The loader takes the library from a folder that has no other.
-            loaded = self.folder / str(i)
+            loaded = self.folder / str(level)
             loaded.mkdir()
-            shutil.copy(library, loaded / SONAME)
-            program = compile_c("secrets.c", loaded / "secrets", library)
+            write_with_code(level, loaded / SONAME)
+            program = compile_c("secrets.c", loaded / "secrets", loaded / SONAME)
             for circuit in ("operations", "aes128"):
-                with self.subTest(library=library, circuit=circuit):
+                with self.subTest(level=level, circuit=circuit):
                     words = [*VALGRIND, program, self.folder / circuit]
                     how = {"env": {**os.environ, "LD_LIBRARY_PATH": str(loaded)}, "stderr": subprocess.PIPE}
                     done = subprocess.run(words, text=True, timeout=600, check=False, **how)

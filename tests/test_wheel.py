@@ -25,17 +25,16 @@ from test_blocks import commands, outputs
 from test_linking import names_by_version, readelf
 
 SCRIPT = TOP / "scripts/wheel.py"
-V3 = Path("glibc-hwcaps/x86-64-v3", SONAME)
 
-# The libraries in the wheel for each machine, and the machine as readelf names it.
-HELD = {"x86_64": (Path(SONAME), V3), "aarch64": (Path("aarch64", SONAME),)}
+# The library in the wheel for each machine, and the machine as readelf names it.
+HELD = {"x86_64": SONAME, "aarch64": f"aarch64/{SONAME}"}
 MACHINES = {"x86_64": "X86-64", "aarch64": "AArch64"}
 LICENSES = "LICENSE-APACHE", "LICENSE-MIT", "THIRD-PARTY.md"
 
 
 def fill(folder):
     """Lays a folder out as dist/lib. The library under test stands for one that isn't there."""
-    for name in (name for names in HELD.values() for name in names):
+    for name in HELD.values():
         (folder / name).parent.mkdir(parents=True, exist_ok=True)
         shutil.copy(LIB_DIR / name if (LIB_DIR / name).is_file() else LIBRARY, folder / name)
 
@@ -91,8 +90,8 @@ class Files(WheelTest):
         with zipfile.ZipFile(file) as wheel:
             held = {it: wheel.read(it) for it in wheel.namelist()}
         info = f"{file.name.partition('-py3-')[0]}.dist-info"
-        libraries = {f"halfgates/lib/{name}": (self.folder / "lib" / name).read_bytes() for name in HELD[machine]}
-        self.assertEqual({it: held[it] for it in held if it.startswith("halfgates/lib/")}, libraries)
+        library = {f"halfgates/lib/{HELD[machine]}": (self.folder / "lib" / HELD[machine]).read_bytes()}
+        self.assertEqual({it: held[it] for it in held if it.startswith("halfgates/lib/")}, library)
         for name in LICENSES:
             self.assertEqual(held[f"{info}/licenses/{name}"], (TOP / name).read_bytes())
         for source in (*TOP.glob("python/halfgates/*.py"), TOP / "python/halfgates/py.typed"):
@@ -115,16 +114,15 @@ class Files(WheelTest):
         self.assertEqual(found, {**expected, f"{info}/RECORD": ["", ""]})
 
     def test_tags(self):
-        """The libraries of a wheel are for the machine of its tag, and need no later glibc."""
-        if not all((LIB_DIR / name).is_file() for names in HELD.values() for name in names):
+        """The library of a wheel is for the machine of its tag, and needs no later glibc."""
+        if not all((LIB_DIR / name).is_file() for name in HELD.values()):
             self.skipTest("the library under test is not that of a release, which has one for each tag")
         for machine, file in self.wheels.items():
             *version, tagged = re.search(r"manylinux_(\d+)_(\d+)_(\w+)\.whl", file.name).groups()
             self.assertEqual(tagged, machine)
-            for name in HELD[machine]:
-                library = self.folder / "lib" / name
-                self.assertIn(MACHINES[machine], readelf("-h", library), name)
-                self.assertLessEqual(max(names_by_version(library)), tuple(map(int, version)), name)
+            library = self.folder / "lib" / HELD[machine]
+            self.assertIn(MACHINES[machine], readelf("-h", library))
+            self.assertLessEqual(max(names_by_version(library)), tuple(map(int, version)), machine)
 
     def test_without_a_library(self):
         environment = {**self.environment, "HALFGATES_LIB_DIR": "/nowhere"}
@@ -241,12 +239,11 @@ class Paths(unittest.TestCase):
         os.utime(path, (time, time))
         return str(path)
 
-    def found(self, is_v3=False, machine="x86_64", **environment):
+    def found(self, machine="x86_64", **environment):
         with mock.patch.dict(os.environ, environment), mock.patch("platform.machine", lambda: machine):
             if "HALFGATES_LIBRARY" not in environment:
                 os.environ.pop("HALFGATES_LIBRARY", None)
-            with mock.patch.object(self.module, "_is_v3", lambda: is_v3):
-                return self.module.library_path()
+            return self.module.library_path()
 
     def test_the_order(self):
         self.assertEqual(self.found(), SONAME)
@@ -261,27 +258,11 @@ class Paths(unittest.TestCase):
         self.assertEqual(self.found(HALFGATES_LIBRARY="/other.so"), "/other.so")
 
     def test_the_processor(self):
-        older = self.put(f"dist/lib/{SONAME}", 20)
-        self.assertEqual(self.found(is_v3=True), older)
-        newer = self.put(f"dist/lib/{V3}", 20)
-        self.assertEqual(self.found(is_v3=True), newer)
-        self.assertEqual(self.found(is_v3=False), older)
+        released = self.put(f"dist/lib/{SONAME}", 20)
         self.assertEqual(self.found(machine="aarch64"), SONAME)
         other = self.put(f"dist/lib/aarch64/{SONAME}", 20)
-        self.assertEqual(self.found(is_v3=True, machine="aarch64"), other)
-
-    def test_flags_of_processors(self):
-        flags = "avx avx2 bmi1 bmi2 f16c fma abm movbe".split()
-        without = [(f"flags\t\t: {' '.join({*flags} - {it})}\n", False) for it in flags]
-        for text, is_v3 in (
-            (f"processor: 0\nflags\t\t: fpu {' '.join(flags)} sse\nflags: none\n", True),
-            ("processor: 0\n", False),
-            *without,
-        ):
-            with mock.patch("builtins.open", mock.mock_open(read_data=text)):
-                self.assertEqual(self.module._is_v3(), is_v3)
-        with mock.patch("builtins.open", side_effect=FileNotFoundError):
-            self.assertFalse(self.module._is_v3())
+        self.assertEqual(self.found(machine="aarch64"), other)
+        self.assertEqual(self.found(), released)
 
 
 if __name__ == "__main__":

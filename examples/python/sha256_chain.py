@@ -5,7 +5,8 @@ one offset. The labels of the state that one block gives are the labels that the
   sha256_chain.py CIRCUIT MESSAGE
 
 CIRCUIT is the file that `examples/make_circuits.py sha256 CIRCUIT` writes. MESSAGE is hashed as UTF-8, and its digest
-is printed. Both parties are in this one program.
+is printed. Both parties are in this one program. Row pairs go from one to the other in pieces, so neither holds those
+of a block, however long the message is.
 """
 
 import secrets
@@ -17,7 +18,7 @@ from pathlib import Path
 from halfgates import Circuit, Fault, decode, from_bits, to_bits
 
 LABEL = 16
-HEAD = 16  # the bytes of a label file before its labels
+PIECE = 4096  # the AND gates of a piece of row pairs
 BLOCK, STATE = 0, 1  # the input values of the circuit
 
 # The initial hash value of FIPS 180-4, section 5.3.3.
@@ -35,41 +36,51 @@ def bits_of(data):
     return to_bits(int.from_bytes(data, "little"), 8 * len(data))
 
 
+def active_labels(pairs, bits):
+    """The labels of wires that stand for these bits, from both labels of each."""
+    return b"".join(pairs[bit][LABEL * wire : LABEL * (wire + 1)] for wire, bit in enumerate(bits))
+
+
 class Garbler:
     """Has the message. Where blocks are the evaluator's, their labels come by oblivious transfer."""
 
     def __init__(self, circuit):
-        self.circuit, self.first = circuit, 0
+        self.circuit, self.first, self.decode_bits = circuit, 0, None
         offset = secrets.token_bytes(LABEL)
         self.offset = bytes([offset[0] | 1]) + offset[1:]
         self.state = secrets.token_bytes(LABEL * circuit.input_widths[STATE])
 
-    def garble(self, block):
-        """The garbling of a block. Its state takes over the zero labels of the state before it."""
+    def begin(self):
+        """Begins to garble a block. Its state takes over the zero labels of the state before it."""
         zeros = secrets.token_bytes(LABEL * self.circuit.input_widths[BLOCK])
-        garbling = self.circuit.garble_from(self.offset, zeros + self.state, self.first)
+        garbling = self.circuit.garbler_from(self.offset, zeros + self.state, self.first)
         self.first += self.circuit.and_gates  # under one offset no AND number is used twice
-        self.state, _ = garbling.output_labels(0)
         return garbling
 
     def messages(self, message):
-        """For each block what goes to the evaluator: rows, the labels of the block, and those of the initial state
-        before the first block. Decode bits go along with the last block alone: the states between stay secret."""
+        """For each block what goes to the evaluator: its row pairs in pieces, which it takes before the next block, the
+        labels of the block, and those of the initial state before the first block. The decode bits are for the end: the
+        states between stay secret."""
         blocks = padded(message)
         for at in range(0, len(blocks), 64):
-            with self.garble(blocks[at : at + 64]) as garbling:
-                labels = garbling.deal(BLOCK, bits_of(blocks[at : at + 64]))[HEAD:]
-                state = garbling.deal(STATE, bits_of(INITIAL))[HEAD:] if at == 0 else None
-                yield garbling.rows(), labels, state, garbling.decode_bits() if at + 64 == len(blocks) else None
+            with self.begin() as garbling:
+                labels = active_labels(garbling.input_labels(BLOCK), bits_of(blocks[at : at + 64]))
+                state = active_labels(garbling.input_labels(STATE), bits_of(INITIAL)) if at == 0 else None
+                yield garbling.pieces(PIECE), labels, state
+                self.state, _ = garbling.output_labels(0)
+                self.decode_bits = garbling.decode_bits()
 
 
 def evaluate(circuit, messages):
-    """The digest, from what the garbler sends."""
+    """The labels of the last state, from what the garbler sends."""
     state, first = b"", 0
-    for rows, labels, initial, decode_bits in messages:
-        state = circuit.evaluate_labels(rows, labels + (initial or state), first)
+    for pieces, labels, initial in messages:
+        with circuit.evaluator(first, labels + (initial or state)) as evaluation:
+            for rows in pieces:
+                evaluation.feed(rows)
+            state = evaluation.output_labels()
         first += circuit.and_gates
-    return from_bits(decode(state, decode_bits)).to_bytes(32, "little")
+    return state
 
 
 def main():
@@ -81,7 +92,9 @@ def main():
     with Circuit.open(words.circuit) as circuit:
         if (circuit.input_widths, circuit.output_widths) != ((512, 256), (256,)):
             sys.exit("the circuit isn't the compression of SHA-256: examples/make_circuits.py sha256 writes it")
-        digest = evaluate(circuit, Garbler(circuit).messages(message))
+        garbler = Garbler(circuit)
+        state = evaluate(circuit, garbler.messages(message))
+    digest = from_bits(decode(state, garbler.decode_bits)).to_bytes(32, "little")
     print(digest.hex())
     if digest != sha256(message).digest():
         sys.exit("hashlib has another digest")

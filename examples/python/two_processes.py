@@ -1,8 +1,8 @@
 #!/usr/bin/env python3
 """Two parties evaluate a circuit on a number of each, in two processes on this machine.
 
-  two_processes.py garbler SOCKET CIRCUIT NUMBER
-  two_processes.py evaluator SOCKET CIRCUIT NUMBER
+  two_processes.py garbler SOCKET CIRCUIT NUMBER [--times]
+  two_processes.py evaluator SOCKET CIRCUIT NUMBER [--times]
 
 SOCKET is a new name for the socket between them, which the garbler makes. CIRCUIT is a file in Bristol Fashion with two
 input values, the garbler's and the evaluator's, and one or two output values, the lowest bit on the first wire. The
@@ -10,6 +10,9 @@ garbler learns the first output value and the evaluator the last one; each print
 
 The evaluator's labels come by the oblivious transfer of oblivious_transfer.py, and the garbler's output goes back as
 labels. Nobody proved that: see examples/README.md.
+
+Row pairs leave in pieces while the next ones are made, and the evaluator evaluates them as they come, so neither holds
+more than a piece. With --times each party also says on standard error how long that took, in milliseconds.
 """
 
 import secrets
@@ -22,8 +25,8 @@ from pathlib import Path
 from halfgates import Circuit, Fault, decode, from_bits, to_bits
 from oblivious_transfer import Receiver, Sender
 
-LABEL = 16
-HEAD = 16  # the bytes of a label file before its labels
+LABEL, ROW_PAIR = 16, 32
+PIECE = 4096  # the AND gates of a piece
 GARBLERS, EVALUATORS = 0, 1  # the input values
 SECONDS = 30  # that the evaluator waits for the garbler's socket
 
@@ -37,17 +40,25 @@ def bits_of_labels(pairs, labels):
     return [int(it == one) for it, one in zip(given, ones)]
 
 
+def active_labels(pairs, bits):
+    """The labels of wires that stand for these bits, from both labels of each."""
+    return b"".join(pairs[bit][LABEL * wire : LABEL * (wire + 1)] for wire, bit in enumerate(bits))
+
+
 def garbler(connection, circuit, number):
-    """Garbles, sends rows, labels and the evaluator's decode bits, and returns its own output value."""
+    """Sends labels, garbles and sends the row pairs, sends the evaluator's decode bits, and returns its own output
+    value."""
     connection.send_bytes(circuit.digest)
-    with circuit.garble(secrets.token_bytes(32)) as garbling:
+    with circuit.garbler(secrets.token_bytes(32)) as garbling:
         bits = to_bits(number, circuit.input_widths[GARBLERS])
-        connection.send_bytes(garbling.rows())
-        connection.send_bytes(garbling.deal(GARBLERS, bits)[HEAD:])
+        connection.send_bytes(active_labels(garbling.input_labels(GARBLERS), bits))
 
         sender = Sender()
         connection.send_bytes(sender.message)
         connection.send_bytes(sender.hide(connection.recv_bytes(), garbling.input_labels(EVALUATORS)))
+
+        for rows in garbling.pieces(PIECE):
+            connection.send_bytes(rows)
 
         width = circuit.output_widths[-1]
         connection.send_bytes(garbling.decode_bits()[-width:] if width else b"")
@@ -58,16 +69,28 @@ def evaluator(connection, circuit, number):
     """Receives its labels, evaluates, sends the labels of the garbler's outputs, and returns its own output value."""
     if connection.recv_bytes() != circuit.digest:
         raise ValueError("the garbler has another circuit")
-    rows, labels = connection.recv_bytes(), connection.recv_bytes()
+    labels = connection.recv_bytes()
 
     receiver = Receiver(connection.recv_bytes(), to_bits(number, circuit.input_widths[EVALUATORS]))
     connection.send_bytes(receiver.replies)
     labels += receiver.open(connection.recv_bytes())
 
-    outputs = circuit.evaluate_labels(rows, labels)
+    outputs = evaluate(connection, circuit, labels)
     decode_bits = connection.recv_bytes()
     connection.send_bytes(outputs[: LABEL * circuit.output_widths[0]])
     return from_bits(decode(outputs[len(outputs) - LABEL * len(decode_bits) :], decode_bits))
+
+
+def evaluate(connection, circuit, labels):
+    """The active labels of the outputs, from row pairs as they come."""
+    left = ROW_PAIR * circuit.and_gates
+    with circuit.evaluator(0, labels) as evaluation:
+        while left:
+            rows = connection.recv_bytes()
+            if not rows or evaluation.feed(rows) != len(rows):
+                raise ValueError("the garbler sent no whole row pairs")
+            left -= len(rows)
+        return evaluation.output_labels()
 
 
 def connect(name):
@@ -88,16 +111,24 @@ def main():
     parser.add_argument("socket", metavar="SOCKET")
     parser.add_argument("circuit", type=Path, metavar="CIRCUIT")
     parser.add_argument("number", type=int, metavar="NUMBER")
+    parser.add_argument("--times", action="store_true", help="say how long the computation took")
     words = parser.parse_args()
     with Circuit.open(words.circuit) as circuit:
         if len(circuit.input_widths) != 2 or len(circuit.output_widths) not in (1, 2):
             parser.error("the circuit has two input values, and one or two output values")
         if words.party == "garbler":
             with Listener(words.socket, "AF_UNIX") as listener, listener.accept() as connection:
-                print(garbler(connection, circuit, words.number))
+                take_part(garbler, connection, circuit, words)
         else:
             with connect(words.socket) as connection:
-                print(evaluator(connection, circuit, words.number))
+                take_part(evaluator, connection, circuit, words)
+
+
+def take_part(party, connection, circuit, words):
+    begun = time.monotonic()
+    print(party(connection, circuit, words.number))
+    if words.times:
+        print(f"{words.party}: {1000 * (time.monotonic() - begun):.0f} ms", file=sys.stderr)
 
 
 if __name__ == "__main__":

@@ -1,7 +1,7 @@
 # SPDX-License-Identifier: MIT OR Apache-2.0
 """The build backend of the package (PEP 517, PEP 660). It needs the standard library alone.
 
-A wheel holds the package and the shared libraries for one kind of processor, of a folder laid out as dist/lib: the
+A wheel holds the package and the shared library for one kind of processor, of a folder laid out as dist/lib: the
 folder that HALFGATES_LIB_DIR names, or dist/lib of this repository. The same files make the same wheel, byte for byte.
 """
 
@@ -18,11 +18,8 @@ from typing import Dict
 PYTHON = Path(__file__).resolve().parents[1]
 TOP = PYTHON.parent
 
-# The libraries for each machine. They need glibc 2.17, and on x86_64 a processor of x86-64-v2, which no tag says.
-LIBRARIES = {
-    "x86_64": ("libhalfgates.so.0", "glibc-hwcaps/x86-64-v3/libhalfgates.so.0"),
-    "aarch64": ("aarch64/libhalfgates.so.0",),
-}
+# The library for each machine. It needs glibc 2.17, and on x86_64 a processor of x86-64-v2, which no tag says.
+LIBRARIES = {"x86_64": "libhalfgates.so.0", "aarch64": "aarch64/libhalfgates.so.0"}
 GLIBC = "2_17"
 LICENSES = "LICENSE-APACHE", "LICENSE-MIT", "THIRD-PARTY.md"
 
@@ -48,7 +45,7 @@ def build_wheel_for(machine: str, wheel_directory) -> str:
     package = PYTHON / "halfgates"
     sources = sorted([*package.glob("*.py"), package / "py.typed"])
     files = {f"halfgates/{it.name}": it.read_bytes() for it in sources}
-    files.update({f"halfgates/lib/{it}": read_library(it) for it in LIBRARIES[machine]})
+    files[f"halfgates/lib/{LIBRARIES[machine]}"] = read_library(LIBRARIES[machine])
     return write_wheel(wheel_directory, files, f"manylinux_{GLIBC}_{machine}")
 
 

@@ -9,16 +9,25 @@ A circuit is read once, and garbled under any number of seeds:
     with Circuit.open(path) as circuit, circuit.bind(garbled, labels) as job:
         outputs = job.evaluate()
 
+A garbling in pieces leaves while it is made, and an evaluator takes the pieces as they come:
+
+    with circuit.garbler(seed) as garbler:
+        for rows in garbler.pieces():
+            connection.sendall(rows)
+
 Texts and files are objects with the buffer protocol. They are read in place, but several label files are joined first.
 Bits are bytes 0 and 1 in wire order: `to_bits` makes them of a number, and `from_bits` a number of them. A call that
 fails raises a `Fault`, with its `code`, which `Code` has, its `name` and its `meaning`.
 """
 
+from ._arrays import Gate, Gates, Operation
 from ._bits import Bits, Buffer, from_bits, to_bits
 from ._codes import Code
-from ._handles import Circuit, Garbling, Job, decode, evaluate_many, locate, write_many
+from ._handles import Circuit, Garbling, Job, decode, locate
 from ._library import Fault, MemoryFault, is_memory, version
-from ._reports import GarbledReport, LabelsReport, Place, WireLabels
+from ._lists import evaluate_each, evaluate_many, write_many
+from ._reports import GarbledReport, GateFault, LabelsReport, Place, WireLabels
+from ._streaming import Evaluator, Garbler
 
 __version__ = version()
 
@@ -27,15 +36,22 @@ __all__ = [
     "Buffer",
     "Circuit",
     "Code",
+    "Evaluator",
     "Fault",
+    "Garbler",
     "Garbling",
     "GarbledReport",
+    "Gate",
+    "GateFault",
+    "Gates",
     "Job",
     "LabelsReport",
     "MemoryFault",
+    "Operation",
     "Place",
     "WireLabels",
     "decode",
+    "evaluate_each",
     "evaluate_many",
     "from_bits",
     "is_memory",

@@ -54,14 +54,23 @@ class Code(IntEnum):
 
     BAD_ARGUMENT = (
         60,
-        "no such version, wire or output, an offset of colour 0, an AND number that is too large, a file of a garbling"
-        " whose `first` isn't 0",
+        "no such version, wire, output or AND gate, an offset of colour 0, an AND number that is too large, a file of a"
+        " garbling whose `first` isn't 0",
     )
     SMALL_BUFFER = 61, "a buffer has too little room"
     MEMORY = 62, "memory ran out for a handle, a file or a list"
+    WRONG_LABEL = (
+        63,
+        "a label is neither of the two labels of its wire: a code of halfgates_open, and a verdict of"
+        " halfgates_audit_labels",
+    )
     NULL_POINTER = 64, "a NULL for a handle, a buffer with a size or a place to write to"
     WRONG_HANDLE = 65, "a handle of another type, such as a garbling in place of a circuit"
     WRONG_SIZE = 66, "a buffer that is read has a wrong size"
+    UNFINISHED = (
+        67,
+        "row pairs are left: a garbler hasn't made all of them, or an evaluator hasn't taken all of them",
+    )
 
 
 #: The faults that are about a wire.

@@ -1,12 +1,14 @@
 # SPDX-License-Identifier: MIT OR Apache-2.0
-"""What circuits, garblings and jobs have in common: a handle of the library, which calls only read."""
+"""What circuits, garblings, jobs, garblers and evaluators have in common: a handle of the library."""
 
 from __future__ import annotations
 
-from ctypes import c_void_p
+from ctypes import byref, c_uint8, c_void_p
 from typing import Any, Callable, ClassVar, NamedTuple, NoReturn, Tuple, Type, TypeVar
 
+from ._arguments import LABEL, u32
 from ._buffers import method_of
+from ._library import check
 
 H = TypeVar("H", bound="Handle")
 
@@ -39,7 +41,8 @@ def owner(free: Callable[[c_void_p], None]) -> Type[c_void_p]:
 
 
 class Handle:
-    """A handle of the library. Any number of calls may use it at once, on any threads: no call waits for another.
+    """A handle of the library. Any number of calls may use it at once, on any threads: no call waits for another, but
+    those on a garbler or an evaluator.
 
     The end of its `with` block, `close` or the end of the object frees it; calls that are at work meanwhile end first.
     After that its calls raise ValueError.
@@ -51,7 +54,7 @@ class Handle:
 
     def __init__(self, *_: object) -> None:
         makers = "a Circuit comes from Circuit.read, a Garbling from Circuit.garble, a Job from Circuit.bind"
-        raise TypeError(makers)
+        raise TypeError(f"{makers}, a Garbler from Circuit.garbler, an Evaluator from Circuit.evaluator")
 
     @classmethod
     def _empty(cls: Type[H]) -> H:
@@ -89,3 +92,21 @@ class Handle:
 
     def __exit__(self, *_: object) -> None:
         self.close()
+
+
+def offset_of(handle: Handle, function: Callable[..., int]) -> bytes:
+    """The offset that a function of the library writes for a handle."""
+    offset = (c_uint8 * LABEL)()
+    check(handle._call(function, offset))
+    return bytes(offset)
+
+
+def pairs_of(
+    handle: Handle, function: Callable[..., int], widths: Tuple[int, ...], index: int
+) -> Tuple[bytes, bytes]:
+    """The zero labels and the one labels of a value, of one of these widths, that a function of the library writes."""
+    index = u32(index)
+    size = LABEL * widths[index] if index < len(widths) else 0
+    zero, one = (c_uint8 * size)(), (c_uint8 * size)()
+    check(handle._call(function, index, byref(zero), byref(one), size))
+    return bytes(zero), bytes(one)

@@ -1,27 +1,22 @@
 # SPDX-License-Identifier: MIT OR Apache-2.0
 """Circuits, garblings and jobs: the handles of the library."""
 
-from contextlib import contextmanager
-from ctypes import Array, byref, c_size_t, c_uint8, c_uint32, c_void_p, sizeof, string_at
-from itertools import accumulate
+from ctypes import byref, c_size_t, c_uint8, c_uint32, c_void_p, sizeof, string_at
 from operator import index as integer
 from os import PathLike
 from pathlib import Path
-from typing import Callable, Iterable, Iterator, List, Optional, Sequence, Tuple, Type, Union
+from typing import Callable, Iterable, List, Optional, Tuple, Union
 
 from . import _library
+from ._arguments import HEAD_OF_LABELS, LABEL, ROW_PAIR, SEED, lent_bits, lent_of_size, size_of, u32, u64
+from ._arrays import GATE, Gates, lent_gates, numbers_of
 from ._bits import Bits, Buffer
 from ._buffers import Lent
 from ._codes import Code
-from ._handle import Handle, Shape, owner
+from ._handle import Handle, Shape, offset_of, owner, pairs_of
 from ._library import Fault, check, library
-from ._reports import GarbledReport, LabelsReport, Place, WireLabels
-
-SEED = 32  # the bytes of a seed
-LABEL = 16  # those of a label
-ROW_PAIR = 32  # those of an AND gate's generator row and evaluator row
-HEAD_OF_LABELS = 16  # those of a label file before its labels
-
+from ._reports import GarbledReport, GateFault, LabelsReport, Place, WireLabels
+from ._streaming import Evaluator, Garbler
 
 class Circuit(Handle):
     """A circuit, by `Circuit.read`. Its numbers stay when it is closed, and so do its garblings and jobs.
@@ -58,6 +53,27 @@ class Circuit(Handle):
         if not isinstance(text, str):
             raise TypeError(f"a text is a str, and not a {type(text).__name__}: Circuit.read takes bytes")
         return cls.read(text.encode())
+
+    @classmethod
+    def from_gates(
+        cls, gates: Gates, wires: int, input_widths: Iterable[int], output_widths: Iterable[int]
+    ) -> "Circuit":
+        """The circuit of these gates in this order, of this many wires, and of values of these widths.
+
+        Gates are `Gate` tuples, or a buffer of four numbers of 32 bits a gate, such as an `array("I")` or a NumPy array
+        of uint32. The circuit is the one that `read` makes of their text, with the same faults: 2, 3, 5 to 10 and 12 as
+        a `GateFault`, 13, 62. A number that has more than 32 bits raises OverflowError.
+        """
+        it, place, wires = cls._empty(), _library.Place(), u32(wires)
+        inputs, outputs = numbers_of(input_widths), numbers_of(output_widths)
+        with lent_gates(gates) as lent, Lent(inputs) as widths, Lent(outputs) as others:
+            words = lent.at, lent.size // GATE, wires, widths.at, len(inputs), others.at, len(outputs)
+            code = library.halfgates_circuit_from_gates(*words, byref(it._at), byref(place))
+        if code == place.fault != Code.OK:
+            raise GateFault._of(place)
+        check(code)
+        it._measure()
+        return it
 
     def share(self) -> "Circuit":
         """One more handle of the same circuit, without a copy, which is closed separately. Fault: 62."""
@@ -107,14 +123,14 @@ class Circuit(Handle):
 
     def garbled_size(self, version: int = 2) -> int:
         """How many bytes a garbled file of this version has, 1 or 2. Fault 60: there is no such version."""
-        size = self._call(library.halfgates_garbled_size, _u32(version))
+        size = self._call(library.halfgates_garbled_size, u32(version))
         check(Code.OK if size else Code.BAD_ARGUMENT)
         return size
 
     def garble(self, seed: Buffer) -> "Garbling":
         """Garbles under a seed of 32 bytes: take `secrets.token_bytes(32)` for each garbling. Faults: 23, 62."""
         it = self._garbling()
-        with _lent(seed, "a seed", 32) as lent:
+        with lent_of_size(seed, "a seed", 32) as lent:
             check(self._call(library.halfgates_garble, lent.at, byref(it._at)))
         return it
 
@@ -125,7 +141,7 @@ class Circuit(Handle):
         """
         keys = bytearray()
         for seed in seeds:
-            with _lent(seed, "a seed", SEED) as lent:
+            with lent_of_size(seed, "a seed", SEED) as lent:
                 keys += string_at(lent.at, SEED)  # the seed itself may have an addition of its own, as arrays do
         made = [self._garbling() for _ in range(len(keys) // SEED)]
         places = (c_void_p * len(made))()
@@ -143,10 +159,42 @@ class Circuit(Handle):
         60 where the offset's colour bit is 0 or `first + and_gates` is above 2^62, 62, 66 where there is another number
         of labels.
         """
-        it, first = self._garbling(), _u64(first)
-        with _lent(offset, "an offset", LABEL) as lent, Lent(zero_labels) as labels:
+        it, first = self._garbling(), u64(first)
+        with lent_of_size(offset, "an offset", LABEL) as lent, Lent(zero_labels) as labels:
             words = lent.at, labels.at, labels.size, first, byref(it._at)
             check(self._call(library.halfgates_garble_from, *words))
+        return it
+
+    def garbler(self, seed: Buffer) -> Garbler:
+        """Begins to garble in pieces under a seed of 32 bytes, as `garble` does at once. Faults: 23, 62."""
+        it = Garbler._empty()
+        it._shape = self._shape
+        with lent_of_size(seed, "a seed", SEED) as lent:
+            check(self._call(library.halfgates_garbler_begin, lent.at, byref(it._at)))
+        return it
+
+    def garbler_from(self, offset: Buffer, zero_labels: Buffer, first: int = 0) -> Garbler:
+        """Begins to garble in pieces from an offset, zero labels and a first AND number, as `garble_from` does at once.
+
+        A garbler that is closed before its end has used its AND numbers all the same. Faults: those of `garble_from`.
+        """
+        it, first = Garbler._empty(), u64(first)
+        it._shape = self._shape
+        with lent_of_size(offset, "an offset", LABEL) as lent, Lent(zero_labels) as labels:
+            words = lent.at, labels.at, labels.size, first, byref(it._at)
+            check(self._call(library.halfgates_garbler_begin_from, *words))
+        return it
+
+    def evaluator(self, first: int, labels: Buffer) -> Evaluator:
+        """Begins to evaluate in pieces, from the number of the first AND gate and the active labels of all input wires.
+
+        Nothing of the labels is trusted. Faults: 46, 60 where `first + and_gates` is above 2^62, 62, 66 where there is
+        another number of labels.
+        """
+        it, first = Evaluator._empty(), u64(first)
+        it._shape = self._shape
+        with Lent(labels) as lent:
+            check(self._call(library.halfgates_evaluator_begin, first, lent.at, lent.size, byref(it._at)))
         return it
 
     def _garbling(self) -> "Garbling":
@@ -160,8 +208,8 @@ class Circuit(Handle):
         Deal each value once for a seed: two label files of one value for different bits give the offset away, and so
         both labels of every wire. Faults: 13, 15, 16, 42, 62.
         """
-        index, written = _u32(index), c_size_t()
-        with _lent(seed, "a seed", 32) as key, _lent_bits(bits) as value:
+        index, written = u32(index), c_size_t()
+        with lent_of_size(seed, "a seed", 32) as key, lent_bits(bits) as value:
             file = bytearray(HEAD_OF_LABELS + LABEL * value.size)
             with Lent(file, is_written=True) as out:
                 words = key.at, index, value.at, value.size, out.at, out.size, byref(written)
@@ -173,7 +221,7 @@ class Circuit(Handle):
 
         Faults: 42, 62, 66 where there is another number of labels.
         """
-        index, written = _u32(index), c_size_t()
+        index, written = u32(index), c_size_t()
         with Lent(labels) as lent:
             file = bytearray(HEAD_OF_LABELS + lent.size)
             with Lent(file, is_written=True) as out:
@@ -188,7 +236,7 @@ class Circuit(Handle):
         """
         it, files = Job._empty(), list(labels)
         it._shape = self._shape
-        sizes = (c_size_t * len(files))(*map(_size_of, files))
+        sizes = (c_size_t * len(files))(*map(size_of, files))
         joined = files[0] if len(files) == 1 else b"".join(files)
         with Lent(garbled) as file, Lent(joined) as lent:
             words = file.at, file.size, lent.at, lent.size, sizes, len(files), byref(it._at)
@@ -198,7 +246,7 @@ class Circuit(Handle):
     def plain(self, bits: Bits) -> bytearray:
         """The bits of all output wires for those of all input wires, without garbling. Faults: 13, 15, 16."""
         outputs = bytearray(self._shape.output_wires)
-        with _lent_bits(bits) as lent, Lent(outputs, is_written=True) as out:
+        with lent_bits(bits) as lent, Lent(outputs, is_written=True) as out:
             check(self._call(library.halfgates_plain, lent.at, lent.size, out.at, out.size))
         return outputs
 
@@ -208,7 +256,7 @@ class Circuit(Handle):
         `first` is the number of the first AND gate, as for `garble_from`. Nothing of rows and labels is trusted.
         Faults: 46, 60 where `first + and_gates` is above 2^62, 66 where there is another number of rows or labels.
         """
-        first, outputs = _u64(first), bytearray(LABEL * self._shape.output_wires)
+        first, outputs = u64(first), bytearray(LABEL * self._shape.output_wires)
         with Lent(rows) as pairs, Lent(labels) as lent, Lent(outputs, is_written=True) as out:
             words = pairs.at, pairs.size, first, lent.at, lent.size, out.at, out.size
             check(self._call(library.halfgates_evaluate_labels, *words))
@@ -225,7 +273,7 @@ class Garbling(Handle):
 
         Faults: 60 where there is no such version or the first AND number isn't 0, 62.
         """
-        version = _u32(version)
+        version = u32(version)
         file = bytearray(self._size(version))
         self.write_into(file, version)
         return file
@@ -236,7 +284,7 @@ class Garbling(Handle):
         Faults: 60 where there is no such version or the first AND number isn't 0, 61 where the buffer has too little
         room and stays as it is, 62.
         """
-        version, written = _u32(version), c_size_t()
+        version, written = u32(version), c_size_t()
         with Lent(buffer, is_written=True) as out:
             check(self._call(library.halfgates_garbling_write, version, out.at, out.size, byref(written)))
         return written.value
@@ -251,34 +299,26 @@ class Garbling(Handle):
     @property
     def offset(self) -> bytes:
         """The offset, 16 bytes: the label of a 1 is the zero label XOR the offset. Never give it to an evaluator."""
-        offset = (c_uint8 * LABEL)()
-        check(self._call(library.halfgates_offset, offset))
-        return bytes(offset)
+        return offset_of(self, library.halfgates_offset)
 
     def input_labels(self, index: int) -> Tuple[bytes, bytes]:
         """The zero labels and the one labels of the wires of an input value, 16 bytes a wire: what a transfer offers.
 
         Fault 42: there is no such value.
         """
-        return self._pairs(library.halfgates_input_labels, self._shape.input_widths, _u32(index))
+        return pairs_of(self, library.halfgates_input_labels, self._shape.input_widths, index)
 
     def output_labels(self, index: int) -> Tuple[bytes, bytes]:
         """The zero labels and the one labels of the wires of an output value. Fault 42: there is no such value."""
-        return self._pairs(library.halfgates_output_labels, self._shape.output_widths, _u32(index))
-
-    def _pairs(self, function: Callable[..., int], widths: Tuple[int, ...], index: int) -> Tuple[bytes, bytes]:
-        size = LABEL * widths[index] if index < len(widths) else 0
-        zero, one = (c_uint8 * size)(), (c_uint8 * size)()
-        check(self._call(function, index, byref(zero), byref(one), size))
-        return bytes(zero), bytes(one)
+        return pairs_of(self, library.halfgates_output_labels, self._shape.output_widths, index)
 
     def deal(self, index: int, bits: Bits) -> bytearray:
         """The label file of the input value of this index, which stands for these bits. See `Circuit.deal`.
 
         Faults: 13, 15, 16, 42, 62.
         """
-        index, written = _u32(index), c_size_t()
-        with _lent_bits(bits) as value:
+        index, written = u32(index), c_size_t()
+        with lent_bits(bits) as value:
             file = bytearray(HEAD_OF_LABELS + LABEL * value.size)
             with Lent(file, is_written=True) as out:
                 words = index, value.at, value.size, out.at, out.size, byref(written)
@@ -287,10 +327,47 @@ class Garbling(Handle):
 
     def rows(self) -> bytearray:
         """The row pairs: for each AND gate the generator's row and the evaluator's row, 16 bytes each."""
-        rows = bytearray(ROW_PAIR * self._shape.and_gates)
-        with Lent(rows, is_written=True) as out:
-            check(self._call(library.halfgates_rows, out.at, out.size))
+        return self.rows_range(0)
+
+    def rows_range(self, start: int, count: Optional[int] = None) -> bytearray:
+        """The row pairs of `count` AND gates from AND gate `start` on, counted from 0, or of all from there.
+
+        Fault 60: there are no such AND gates.
+        """
+        rows = bytearray(ROW_PAIR * self._range(u32(start), count))
+        self.rows_into(rows, start, count)
         return rows
+
+    def rows_into(self, buffer: object, start: int = 0, count: Optional[int] = None) -> int:
+        """Writes the row pairs of all AND gates, or of such a range, to a writable buffer. Returns how many bytes.
+
+        Faults: 60 where there are no such AND gates, 61 where the buffer has too little room and stays as it is.
+        """
+        start = u32(start)
+        count = self._range(start, count)
+        with Lent(buffer, is_written=True) as out:
+            check(self._call(library.halfgates_rows_range, start, count, out.at, out.size))
+        return ROW_PAIR * count
+
+    def _range(self, start: int, count: Optional[int]) -> int:
+        """How many AND gates there are in a range."""
+        most = self._shape.and_gates - start
+        count = most if count is None else integer(count)
+        check(Code.OK if 0 <= count <= most else Code.BAD_ARGUMENT)
+        return count
+
+    def open(self, index: int, labels: Buffer) -> bytearray:
+        """The bits of labels of the output value of this index, 16 bytes a wire, that an evaluator returned.
+
+        Unlike `decode` it takes only labels of this garbling. Faults: 42, 63 where a label is neither of its wire's
+        two, 66 where there is another number of labels.
+        """
+        index = u32(index)
+        widths = self._shape.output_widths
+        bits = bytearray(widths[index] if index < len(widths) else 0)
+        with Lent(labels) as lent, Lent(bits, is_written=True) as out:
+            check(self._call(library.halfgates_open, index, lent.at, lent.size, out.at, out.size))
+        return bits
 
     def decode_bits(self) -> bytearray:
         """The decode bits of all output wires: `decode` opens the outputs to whoever has those of their wires."""
@@ -302,13 +379,13 @@ class Garbling(Handle):
     def zero_label(self, wire: int) -> bytes:
         """The zero label of a wire, 16 bytes, zeros for a wire that isn't set. Fault 60: there is no such wire."""
         label = (c_uint8 * LABEL)()
-        check(self._call(library.halfgates_zero_label, _u32(wire), label))
+        check(self._call(library.halfgates_zero_label, u32(wire), label))
         return bytes(label)
 
     def decode_bit(self, output: int) -> int:
         """The decode bit of an output wire, counted from 0 among these. Fault 60: there is no such output."""
         bit = c_uint8()
-        check(self._call(library.halfgates_decode_bit, _u32(output), byref(bit)))
+        check(self._call(library.halfgates_decode_bit, u32(output), byref(bit)))
         return bit.value
 
     def labels(self, bits: Bits, start: int = 0, count: Optional[int] = None) -> List[WireLabels]:
@@ -317,13 +394,13 @@ class Garbling(Handle):
         Where a bit is 1 both labels of its wire are here, and so the offset: never give them to an evaluator.
         Faults: 13, 15, 16, 60 where there are no such wires.
         """
-        start = _u32(start)
+        start = u32(start)
         most = max(self._shape.wires - start, 0)
         count = most if count is None else integer(count)
         if not 0 <= count <= most:
             raise Fault(Code.BAD_ARGUMENT)
         found = (_library.WireLabels * count)()
-        with _lent_bits(bits) as lent:
+        with lent_bits(bits) as lent:
             check(self._call(library.halfgates_labels, lent.at, lent.size, start, found, count))
         return [WireLabels._of(it) for it in found]
 
@@ -371,43 +448,13 @@ class Job(Handle):
         return labels
 
 
-def write_many(garblings: Iterable[Garbling], version: int = 2) -> List[bytearray]:
-    """The garbled file of each garbling in a version, 1 or 2, in their order, as `Garbling.write` returns it.
-
-    Up to eight files in a row are digested side by side, which takes less time. Faults: 60 where there is no such
-    version, or the first AND number of a garbling isn't 0, 62.
-    """
-    listed, version = list(garblings), _u32(version)
-    owners = _owners_of(listed, Garbling)  # they stay until the call ends
-    sizes = [it._size(version) for it in listed]
-    files = bytearray(sum(sizes))
-    with Lent(files, is_written=True) as out:
-        check(library.halfgates_write_many(_handles_of(owners), len(owners), version, out.at, out.size))
-    return _cut(files, sizes)
-
-
-def evaluate_many(jobs: Iterable[Job]) -> List[bytearray]:
-    """The bits of all output wires of each job, in their order, as `Job.evaluate` returns them.
-
-    Up to four jobs in a row that have equal circuits are evaluated side by side, which takes less time. Faults: 46, 48,
-    62. The first fault in the order of the jobs is raised.
-    """
-    listed = list(jobs)
-    owners = _owners_of(listed, Job)  # they stay until the call ends
-    counts = [it._shape.output_wires for it in listed]
-    bits = bytearray(sum(counts))
-    with Lent(bits, is_written=True) as out:
-        check(library.halfgates_evaluate_many(_handles_of(owners), len(owners), out.at, out.size))
-    return _cut(bits, counts)
-
-
 def decode(labels: Buffer, decode_bits: Bits) -> bytearray:
     """The bits of active output labels, 16 bytes each, by the decode bits of their wires.
 
     Any label decodes: that it is one of its wire's two isn't checked. Faults: 13, 46, 15 where a decode bit is neither
     0 nor 1, 66 where there is another number of labels than of bits.
     """
-    with Lent(labels) as lent, _lent_bits(decode_bits) as decoding:
+    with Lent(labels) as lent, lent_bits(decode_bits) as decoding:
         bits = bytearray(decoding.size)
         with Lent(bits, is_written=True) as out:
             check(library.halfgates_decode(lent.at, lent.size, decoding.at, decoding.size, out.at, out.size))
@@ -420,57 +467,3 @@ def locate(text: Buffer) -> Optional[Place]:
     with Lent(text) as lent:
         check(library.halfgates_locate(lent.at, lent.size, place))
     return Place._of(place)
-
-
-def _u32(number: int) -> int:
-    return _unsigned(number, 32)
-
-
-def _u64(number: int) -> int:
-    return _unsigned(number, 64)
-
-
-def _unsigned(number: int, width: int) -> int:
-    """The number, where it has this many bits: ctypes drops bits without a word."""
-    number = integer(number)
-    if not 0 <= number < 1 << width:
-        raise OverflowError(f"a number is from 0 to {2**width - 1:,}")
-    return number
-
-
-def _owners_of(listed: Sequence[Handle], of_type: Type[Handle]) -> List[c_void_p]:
-    for it in listed:
-        if not isinstance(it, of_type):
-            raise TypeError(f"a {type(it).__name__} is no {of_type.__name__}")
-    return [it._owned() for it in listed]
-
-
-def _handles_of(owners: List[c_void_p]) -> "Array[c_void_p]":
-    return (c_void_p * len(owners))(*(it.value for it in owners))
-
-
-def _cut(joined: bytearray, sizes: List[int]) -> List[bytearray]:
-    """The pieces of these sizes, which follow one another."""
-    return [joined[end - size : end] for size, end in zip(sizes, accumulate(sizes))]
-
-
-def _size_of(data: Buffer) -> int:
-    with Lent(data) as lent:
-        return lent.size
-
-
-@contextmanager
-def _lent_bits(bits: Bits) -> Iterator[Lent]:
-    with Lent(bytes(bits) if isinstance(bits, (list, tuple)) else bits) as lent:
-        if lent.item_size != 1:
-            raise TypeError(f"bits are bytes, and not items of {lent.item_size} bytes")
-        yield lent
-
-
-@contextmanager
-def _lent(data: Buffer, what: str, size: int) -> Iterator[Lent]:
-    """The bytes of something that has a fixed number of them."""
-    with Lent(data) as lent:
-        if lent.size != size:
-            raise ValueError(f"{what} has {size} bytes, and not {lent.size}")
-        yield lent

@@ -11,9 +11,6 @@ from ._path import library_path
 # The value that means no gate, no wire or no output.
 NONE = 2**32 - 1
 
-# The verdict on a label file that has a label which is none of its wire. It is no code.
-WRONG_LABEL = 63
-
 
 class Name(ctypes.Structure):
     _fields_ = [("text", c_char * 32)]
@@ -67,6 +64,10 @@ _FUNCTIONS: Dict[str, Tuple[Any, ...]] = {
     "circuit_input_widths": (c_int32, _HANDLE, POINTER(c_uint32), c_size_t),
     "circuit_output_widths": (c_int32, _HANDLE, POINTER(c_uint32), c_size_t),
     "circuit_digest": (c_int32, _HANDLE, c_void_p),
+    "circuit_from_gates": (
+        *(c_int32, _BYTES, c_size_t, c_uint32, _BYTES, c_size_t, _BYTES, c_size_t),
+        *(POINTER(_HANDLE), POINTER(Place)),
+    ),
     "locate": (c_int32, _BYTES, c_size_t, POINTER(Place)),
     "plain": (c_int32, _HANDLE, _BYTES, c_size_t, _BYTES, c_size_t),
     "garble": (c_int32, _HANDLE, _BYTES, POINTER(_HANDLE)),
@@ -86,14 +87,29 @@ _FUNCTIONS: Dict[str, Tuple[Any, ...]] = {
     "input_labels": (c_int32, _HANDLE, c_uint32, _BYTES, _BYTES, c_size_t),
     "output_labels": (c_int32, _HANDLE, c_uint32, _BYTES, _BYTES, c_size_t),
     "rows": (c_int32, _HANDLE, _BYTES, c_size_t),
+    "rows_range": (c_int32, _HANDLE, c_uint32, c_uint32, _BYTES, c_size_t),
     "decode_bits": (c_int32, _HANDLE, _BYTES, c_size_t),
+    "open": (c_int32, _HANDLE, c_uint32, _BYTES, c_size_t, _BYTES, c_size_t),
     "job_bind": (c_int32, _HANDLE, _BYTES, c_size_t, _BYTES, c_size_t, _SIZE, c_size_t, POINTER(_HANDLE)),
     "job_free": (None, _HANDLE),
     "evaluate": (c_int32, _HANDLE, _BYTES, c_size_t),
     "evaluate_many": (c_int32, POINTER(_HANDLE), c_size_t, _BYTES, c_size_t),
+    "evaluate_each": (c_int32, POINTER(_HANDLE), c_size_t, _BYTES, c_size_t, POINTER(c_int32)),
     "evaluate_labels": (c_int32, _HANDLE, _BYTES, c_size_t, c_uint64, _BYTES, c_size_t, _BYTES, c_size_t),
     "job_output_labels": (c_int32, _HANDLE, _BYTES, c_size_t),
     "decode": (c_int32, _BYTES, c_size_t, _BYTES, c_size_t, _BYTES, c_size_t),
+    "garbler_begin": (c_int32, _HANDLE, _BYTES, POINTER(_HANDLE)),
+    "garbler_begin_from": (c_int32, _HANDLE, _BYTES, _BYTES, c_size_t, c_uint64, POINTER(_HANDLE)),
+    "garbler_free": (None, _HANDLE),
+    "garbler_offset": (c_int32, _HANDLE, c_void_p),
+    "garbler_input_labels": (c_int32, _HANDLE, c_uint32, _BYTES, _BYTES, c_size_t),
+    "garbler_next": (c_int32, _HANDLE, _BYTES, c_size_t, _SIZE),
+    "garbler_output_labels": (c_int32, _HANDLE, c_uint32, _BYTES, _BYTES, c_size_t),
+    "garbler_decode_bits": (c_int32, _HANDLE, _BYTES, c_size_t),
+    "evaluator_begin": (c_int32, _HANDLE, c_uint64, _BYTES, c_size_t, POINTER(_HANDLE)),
+    "evaluator_free": (None, _HANDLE),
+    "evaluator_feed": (c_int32, _HANDLE, _BYTES, c_size_t, _SIZE),
+    "evaluator_output_labels": (c_int32, _HANDLE, _BYTES, c_size_t),
     "audit": (c_int32, _HANDLE, _BYTES, c_size_t, POINTER(AuditReport)),
     "audit_labels": (c_int32, _HANDLE, _BYTES, c_size_t, _BYTES, c_size_t, POINTER(LabelsReport)),
 }
@@ -149,7 +165,12 @@ class MemoryFault(Fault, MemoryError):
     """Memory ran out."""
 
 
+def fault_of(code: int) -> Fault:
+    """The fault of this code, which isn't that of success."""
+    return (MemoryFault if is_memory(code) else Fault)(code)
+
+
 def check(code: int) -> None:
     """Raises the fault of this code, unless it is that of success."""
     if code != Code.OK:
-        raise (MemoryFault if is_memory(code) else Fault)(code)
+        raise fault_of(code)

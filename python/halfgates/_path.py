@@ -11,9 +11,6 @@ NAME = "libhalfgates.so.0"
 _PACKAGE = Path(__file__).resolve().parent
 _REPOSITORY = _PACKAGE.parents[1]
 
-# What x86-64-v3 adds, as /proc/cpuinfo names it.
-_V3 = frozenset("avx avx2 bmi1 bmi2 f16c fma abm movbe".split())
-
 
 def library_path() -> str:
     """The file that HALFGATES_LIBRARY names, or the wheel's, or the repository's, or else the system's."""
@@ -41,17 +38,6 @@ def _time_of(file: Path) -> float:
 
 
 def _folder_of_processor(folder: Path) -> Path:
-    """Where a folder has the library for this processor. glibc's loader would look there for a name without a path."""
-    if platform.machine() != "x86_64":
-        return folder / platform.machine()
-    v3 = folder / "glibc-hwcaps/x86-64-v3"
-    return v3 if v3.is_dir() and _is_v3() else folder
-
-
-def _is_v3() -> bool:
-    try:
-        with open("/proc/cpuinfo", encoding="ascii", errors="replace") as file:
-            flags = next((line for line in file if line.startswith("flags")), "")
-    except OSError:
-        return False
-    return _V3.issubset(flags.split())
+    """Where a folder has the library for this kind of processor."""
+    machine = platform.machine()
+    return folder if machine == "x86_64" else folder / machine

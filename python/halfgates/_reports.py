@@ -5,7 +5,7 @@ from typing import NamedTuple, Optional
 
 from . import _library
 from ._codes import OF_WIRES, Code
-from ._library import NONE, WRONG_LABEL, name_of
+from ._library import NONE, Fault, name_of
 
 
 def _or_none(number: int) -> Optional[int]:
@@ -29,6 +29,23 @@ class Place(NamedTuple):
         # A token that is meant as a wire may be any number, NONE too.
         wire = it.wire if it.fault in OF_WIRES else None
         return cls(it.fault, name_of(it.fault), it.line, it.column, _or_none(it.gate), wire)
+
+
+class GateFault(Fault):
+    """Gates aren't those of a circuit: the fault, and the `gate` and the `wire` that it is about, or None."""
+
+    def __init__(self, code: int, gate: Optional[int], wire: Optional[int]) -> None:
+        super().__init__(code)
+        self.gate, self.wire = gate, wire
+        self.args = code, gate, wire
+
+    def __str__(self) -> str:
+        places = [f"{what} {it}" for what, it in (("gate", self.gate), ("wire", self.wire)) if it is not None]
+        return super().__str__() + (f" ({', '.join(places)})" if places else "")
+
+    @classmethod
+    def _of(cls, it: _library.Place) -> "GateFault":
+        return cls(it.fault, _or_none(it.gate), it.wire if it.fault in OF_WIRES else None)
 
 
 class WireLabels(NamedTuple):
@@ -90,5 +107,4 @@ class LabelsReport(NamedTuple):
 
     @classmethod
     def _of(cls, it: _library.LabelsReport, bits: bytearray) -> "LabelsReport":
-        verdict = "WrongLabel" if it.verdict == WRONG_LABEL else name_of(it.verdict)
-        return cls(verdict, it.index, bits if it.verdict == Code.OK else None, _or_none(it.wire))
+        return cls(name_of(it.verdict), it.index, bits if it.verdict == Code.OK else None, _or_none(it.wire))

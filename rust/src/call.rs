@@ -3,10 +3,11 @@
 
 use std::borrow::Borrow;
 use std::fmt;
+use std::mem::size_of;
 use std::ptr::{self, NonNull};
 
 use crate::fault::Fault;
-use crate::sys;
+use crate::{sys, Label};
 
 /// A handle of the library, freed when it is dropped.
 pub struct Handle<T: Free>(NonNull<T>);
@@ -51,6 +52,11 @@ impl<T: Free> Handle<T> {
         self.0.as_ptr()
     }
 
+    /// The handle for a call that changes it, which needs it alone.
+    pub fn get_mut(&mut self) -> *mut T {
+        self.0.as_ptr()
+    }
+
     /// The handle as lists have it. Calls that take a list only read its handles.
     pub fn listed(&self) -> *mut T {
         self.0.as_ptr()
@@ -67,8 +73,8 @@ impl<T: Free> Drop for Handle<T> {
 // SAFETY: a handle belongs to no thread, and handles of one circuit can be used side by side.
 unsafe impl<T: Free> Send for Handle<T> {}
 
-// SAFETY: all calls but the one that frees only read a handle, and any number of them may use it at
-// once.
+// SAFETY: all calls by a shared reference only read a handle, and any number of them may use it at
+// once. Those that change it, by `get_mut`, and the one that frees it have it alone.
 unsafe impl<T: Free> Sync for Handle<T> {}
 
 macro_rules! free {
@@ -88,6 +94,8 @@ free! {
     halfgates_circuit by halfgates_circuit_free
     halfgates_garbling by halfgates_garbling_free
     halfgates_job by halfgates_job_free
+    halfgates_garbler by halfgates_garbler_free
+    halfgates_evaluator by halfgates_evaluator_free
 }
 
 /// An empty vector with room for `count` items.
@@ -116,6 +124,29 @@ pub unsafe fn filled<T>(count: usize, fill: impl FnOnce(*mut T) -> i32) -> Resul
     // SAFETY: there is room for the items, and the caller has them written.
     unsafe { items.set_len(count) };
     Ok(items)
+}
+
+/// The zero label and the one label of each wire of a value of this width, which a call of the
+/// library writes. It takes the zero labels, the one labels, and the size of each in bytes.
+///
+/// # Safety
+///
+/// Where `write` returns 0, it has written both sizes of bytes. It writes no more than these.
+pub unsafe fn pairs(
+    width: usize,
+    write: impl FnOnce(*mut u8, *mut u8, usize) -> i32,
+) -> Result<Vec<[Label; 2]>, Fault> {
+    // SAFETY: there is room for `width` labels twice, and the caller has each half written.
+    let labels = unsafe {
+        filled(2 * width, |zero: *mut Label| {
+            let one = zero.add(width);
+            write(zero.cast(), one.cast(), width * size_of::<Label>())
+        })?
+    };
+    let (zero, one) = labels.split_at(width);
+    let mut pairs = room(width)?;
+    pairs.extend(zero.iter().zip(one).map(|(&zero, &one)| [zero, one]));
+    Ok(pairs)
 }
 
 /// Bits of bytes 0 and 1, in place.

@@ -7,7 +7,8 @@ use std::sync::Arc;
 
 use crate::call::{bits_of, filled, room, Handle};
 use crate::fault::Fault;
-use crate::{sys, Garbling, Job, Label, RowPair, Version};
+use crate::gates::{Gate, GateFault};
+use crate::{sys, Evaluator, Garbler, Garbling, Job, Label, Place, RowPair, Version};
 
 /// A circuit, read from a text in Bristol Fashion.
 ///
@@ -46,6 +47,54 @@ impl Circuit {
         let handle = unsafe {
             Handle::new(|it| sys::halfgates_circuit_read(text.as_ptr(), text.len(), it))?
         };
+        let shape = Arc::new(Shape::of(&handle)?);
+        Ok(Self { handle, shape })
+    }
+
+    /// The circuit of these gates in this order, of this many wires, and of values of these widths:
+    /// what [`Circuit::read`] makes of their text. Where each wire is an input wire or set by a
+    /// gate, `wires` is the number of input wires and of gates together.
+    ///
+    /// ```
+    /// use halfgates::{Circuit, Gate};
+    ///
+    /// let and = Circuit::from_gates(&[Gate::and(0, 1, 2)], 3, &[1, 1], &[1])?;
+    /// assert_eq!(and.plain(&[true, true])?, [true]);
+    /// # Ok::<(), halfgates::Fault>(())
+    /// ```
+    ///
+    /// # Errors
+    ///
+    /// The first fault of that text, with its gate and its wire; [`Fault::BAD_NUMBER`] for a number
+    /// above 4,294,967,295; [`Fault::CIRCUIT_MEMORY`], [`Fault::MEMORY`].
+    #[doc(alias = "halfgates_circuit_from_gates")]
+    pub fn from_gates(
+        gates: &[Gate],
+        wires: usize,
+        input_widths: &[usize],
+        output_widths: &[usize],
+    ) -> Result<Self, GateFault> {
+        let wires = number(wires)?;
+        let (inputs, outputs) = (numbers(input_widths)?, numbers(output_widths)?);
+        let mut place = sys::halfgates_place::default();
+        // SAFETY: a gate has the layout of the header's. The call reads the gates and the widths,
+        // and writes the place and a handle.
+        let handle = unsafe {
+            Handle::new(|it| {
+                sys::halfgates_circuit_from_gates(
+                    gates.as_ptr().cast(),
+                    gates.len(),
+                    wires,
+                    inputs.as_ptr(),
+                    inputs.len(),
+                    outputs.as_ptr(),
+                    outputs.len(),
+                    it,
+                    &mut place,
+                )
+            })
+        }
+        .map_err(|fault| GateFault::of(fault, Place::of(&place)))?;
         let shape = Arc::new(Shape::of(&handle)?);
         Ok(Self { handle, shape })
     }
@@ -195,8 +244,8 @@ impl Circuit {
         Ok(Garbling::new(handle, Arc::clone(&self.shape)))
     }
 
-    /// Garbles under each of these seeds, as [`Circuit::garble`] does, in their order. Two at a time
-    /// are garbled side by side, which takes less time.
+    /// Garbles under each of these seeds, as [`Circuit::garble`] does, in their order. Two at a
+    /// time are garbled side by side, which takes less time.
     ///
     /// # Errors
     ///
@@ -257,6 +306,66 @@ impl Circuit {
             })?
         };
         Ok(Garbling::new(handle, Arc::clone(&self.shape)))
+    }
+
+    /// Begins to garble in pieces under a seed, as [`Circuit::garble`] does at once.
+    ///
+    /// # Errors
+    ///
+    /// [`Fault::GARBLING_MEMORY`], [`Fault::MEMORY`].
+    #[doc(alias = "halfgates_garbler_begin")]
+    pub fn garbler(&self, seed: &[u8; 32]) -> Result<Garbler, Fault> {
+        // SAFETY: the call reads the 32 bytes of the seed, and writes a handle.
+        let handle = unsafe {
+            Handle::new(|it| sys::halfgates_garbler_begin(self.handle.get(), seed.as_ptr(), it))?
+        };
+        Ok(Garbler::new(handle, Arc::clone(&self.shape)))
+    }
+
+    /// Begins to garble in pieces from an offset, zero labels and a first AND number, as
+    /// [`Circuit::garble_from`] does at once. A garbler that is dropped before its end has used its
+    /// AND numbers all the same.
+    ///
+    /// # Errors
+    ///
+    /// Those of [`Circuit::garble_from`].
+    #[doc(alias = "halfgates_garbler_begin_from")]
+    pub fn garbler_from(
+        &self,
+        offset: &Label,
+        zero_labels: &[Label],
+        first: u64,
+    ) -> Result<Garbler, Fault> {
+        let (labels, size) = (zero_labels.as_ptr().cast(), size_of_val(zero_labels));
+        // SAFETY: the call reads the 16 bytes of the offset and `size` bytes of labels, and writes
+        // a handle.
+        let handle = unsafe {
+            Handle::new(|it| {
+                let circuit = self.handle.get();
+                sys::halfgates_garbler_begin_from(circuit, offset.as_ptr(), labels, size, first, it)
+            })?
+        };
+        Ok(Garbler::new(handle, Arc::clone(&self.shape)))
+    }
+
+    /// Begins to evaluate in pieces, from the number of the first AND gate, as the garbler had it,
+    /// and the active labels of all input wires. Nothing of the labels is trusted.
+    ///
+    /// # Errors
+    ///
+    /// [`Fault::WRONG_SIZE`] where there isn't one label for each input wire;
+    /// [`Fault::BAD_ARGUMENT`] where `first` is too large; [`Fault::JOB_MEMORY`],
+    /// [`Fault::MEMORY`].
+    #[doc(alias = "halfgates_evaluator_begin")]
+    pub fn evaluator(&self, first: u64, labels: &[Label]) -> Result<Evaluator, Fault> {
+        let (at, size) = (labels.as_ptr().cast(), size_of_val(labels));
+        // SAFETY: the call reads `size` bytes of labels, and writes a handle.
+        let handle = unsafe {
+            Handle::new(|it| {
+                sys::halfgates_evaluator_begin(self.handle.get(), first, at, size, it)
+            })?
+        };
+        Ok(Evaluator::new(handle, &self.shape))
     }
 
     /// The size of a garbled file in bytes, whatever the seed.
@@ -448,6 +557,19 @@ impl Shape {
 
 pub(crate) fn index_of_value(index: usize) -> Result<u32, Fault> {
     u32::try_from(index).map_err(|_| Fault::NO_SUCH_VALUE)
+}
+
+/// A number as the library takes it.
+fn number(it: usize) -> Result<u32, Fault> {
+    u32::try_from(it).map_err(|_| Fault::BAD_NUMBER)
+}
+
+fn numbers(widths: &[usize]) -> Result<Vec<u32>, Fault> {
+    let mut found = room(widths.len())?;
+    for &width in widths {
+        found.push(number(width)?);
+    }
+    Ok(found)
 }
 
 /// The size of a label file in bytes.

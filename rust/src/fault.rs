@@ -109,12 +109,17 @@ faults! {
     SMALL_BUFFER = 61 "SmallBuffer";
     /// No memory for a handle, a file, or a buffer of this crate.
     MEMORY = 62 "Memory";
+    /// A label is neither of the two labels of its wire.
+    WRONG_LABEL = 63 "WrongLabel";
     /// A pointer is null. The calls of this crate pass none.
     NULL_POINTER = 64 "NullPointer";
     /// A handle is of another type. The types of this crate keep handles apart.
     WRONG_HANDLE = 65 "WrongHandle";
     /// There is another number of labels or rows than the call takes.
     WRONG_SIZE = 66 "WrongSize";
+    /// Row pairs are left: a garbler hasn't made all of them, or an evaluator hasn't taken all of
+    /// them.
+    UNFINISHED = 67 "Unfinished";
 }
 
 impl Fault {
@@ -161,7 +166,7 @@ mod tests {
 
     #[test]
     fn names_and_memory_are_those_of_the_library() {
-        for code in (-1..=100).filter(|it| ![sys::OK, sys::WRONG_LABEL].contains(it)) {
+        for code in (-1..=100).filter(|&it| it != sys::OK) {
             // SAFETY: the call takes any number.
             let name = unsafe { sys::halfgates_fault_name(code) };
             let fault = Fault(code);

@@ -2,12 +2,12 @@
 
 use std::borrow::Borrow;
 use std::fmt;
-use std::mem::size_of;
+use std::mem::{size_of, size_of_val};
 use std::ops::Range;
 use std::ptr;
 use std::sync::Arc;
 
-use crate::call::{bits_of, borrowed, filled, room, Handle};
+use crate::call::{bits_of, borrowed, filled, pairs, room, Handle};
 use crate::circuit::{index_of_value, size_of_label_file, Shape};
 use crate::fault::Fault;
 use crate::{sys, GarbledReport, Label, LabelsReport, RowPair, Version, WireLabels};
@@ -160,23 +160,12 @@ impl Garbling {
     ) -> Result<Vec<[Label; 2]>, Fault> {
         let width = *widths.get(index).ok_or(Fault::NO_SUCH_VALUE)?;
         let index = index_of_value(index)?;
-        // SAFETY: there is room for `width` labels twice, and the call writes each half.
-        let labels = unsafe {
-            filled(2 * width, |zero: *mut Label| {
-                let one = zero.add(width);
-                write(
-                    self.handle.get(),
-                    index,
-                    zero.cast(),
-                    one.cast(),
-                    width * size_of::<Label>(),
-                )
-            })?
-        };
-        let (zero, one) = labels.split_at(width);
-        let mut pairs = room(width)?;
-        pairs.extend(zero.iter().zip(one).map(|(&zero, &one)| [zero, one]));
-        Ok(pairs)
+        // SAFETY: the call writes `width` labels of each kind.
+        unsafe {
+            pairs(width, |zero, one, size| {
+                write(self.handle.get(), index, zero, one, size)
+            })
+        }
     }
 
     /// The row pair of each AND gate.
@@ -193,6 +182,50 @@ impl Garbling {
                 sys::halfgates_rows(self.handle.get(), rows.cast(), count * size_of::<RowPair>())
             })
         }
+    }
+
+    /// The row pairs of a range of AND gates, counted from 0 in the order of the circuit.
+    ///
+    /// # Errors
+    ///
+    /// [`Fault::BAD_ARGUMENT`] where there are no such AND gates, [`Fault::MEMORY`].
+    #[doc(alias = "halfgates_rows_range")]
+    pub fn rows_range(&self, and_gates: Range<usize>) -> Result<Vec<RowPair>, Fault> {
+        if and_gates.start > and_gates.end || and_gates.end > self.shape.and_gates {
+            return Err(Fault::BAD_ARGUMENT);
+        }
+        let (count, size) = (and_gates.len(), and_gates.len() * size_of::<RowPair>());
+        let number = |it: usize| u32::try_from(it).map_err(|_| Fault::BAD_ARGUMENT);
+        let (from, range) = (number(and_gates.start)?, number(count)?);
+        // SAFETY: the call writes `count` row pairs.
+        unsafe {
+            filled(count, |rows: *mut RowPair| {
+                sys::halfgates_rows_range(self.handle.get(), from, range, rows.cast(), size)
+            })
+        }
+    }
+
+    /// Opens labels of an output value, counted from 0, that an evaluator returned: the bit of
+    /// each. Unlike [`decode`](crate::decode) it takes only labels of this garbling.
+    ///
+    /// # Errors
+    ///
+    /// [`Fault::NO_SUCH_VALUE`]; [`Fault::WRONG_SIZE`] where there isn't one label for each wire;
+    /// [`Fault::WRONG_LABEL`] where one is neither of the two labels of its wire;
+    /// [`Fault::MEMORY`].
+    #[doc(alias = "halfgates_open")]
+    pub fn open(&self, index: usize, labels: &[Label]) -> Result<Vec<bool>, Fault> {
+        let widths = &self.shape.output_widths;
+        let count = *widths.get(index).ok_or(Fault::NO_SUCH_VALUE)?;
+        let index = index_of_value(index)?;
+        // SAFETY: the call reads the labels, and writes `count` bytes.
+        let bits = unsafe {
+            filled(count, |bits| {
+                let (labels, size) = (labels.as_ptr().cast(), size_of_val(labels));
+                sys::halfgates_open(self.handle.get(), index, labels, size, bits, count)
+            })?
+        };
+        Ok(bits_of(bits))
     }
 
     /// The decode bit of each output wire.

@@ -92,6 +92,41 @@ pub fn evaluate_many<J: Borrow<Job>>(jobs: &[J]) -> Result<Vec<Vec<bool>>, Fault
     Ok(outputs)
 }
 
+/// What comes of each job: the bits of all output wires, or the fault that [`Job::evaluate`]
+/// returns.
+///
+/// Unlike [`evaluate_many`] it goes on after a job that fails.
+///
+/// # Errors
+///
+/// Of a job: [`Fault::JOB_MEMORY`], [`Fault::UNKNOWN_OUTPUT_LABEL`]. Of the call:
+/// [`Fault::MEMORY`].
+#[doc(alias = "halfgates_evaluate_each")]
+#[allow(clippy::type_complexity)] // A list of what `Job::evaluate` returns.
+pub fn evaluate_each<J: Borrow<Job>>(jobs: &[J]) -> Result<Vec<Result<Vec<bool>, Fault>>, Fault> {
+    let jobs = borrowed(jobs)?;
+    let (mut handles, mut outcomes) = (room(jobs.len())?, room(jobs.len())?);
+    let (mut bits, mut codes) = (Vec::new(), room(jobs.len())?);
+    handles.extend(jobs.iter().map(|it| it.handle.listed()));
+    let (count, size) = (jobs.len(), jobs.iter().map(|it| it.output_wires).sum());
+    bits.try_reserve_exact(size).map_err(|_| Fault::MEMORY)?;
+    bits.resize(size, 0);
+    codes.resize(count, sys::OK);
+    // SAFETY: the call reads the list and the jobs of its handles, and writes at most `size` bytes
+    // and `count` codes.
+    Fault::check(unsafe {
+        let (handles, codes) = (handles.as_ptr(), codes.as_mut_ptr());
+        sys::halfgates_evaluate_each(handles, count, bits.as_mut_ptr(), size, codes)
+    })?;
+    let mut bits = bits_of(bits).into_iter();
+    for (job, code) in jobs.into_iter().zip(codes) {
+        let mut of_job = room(job.output_wires)?;
+        of_job.extend(bits.by_ref().take(job.output_wires));
+        outcomes.push(Fault::check(code).map(|()| of_job));
+    }
+    Ok(outcomes)
+}
+
 /// Shows no label.
 impl fmt::Debug for Job {
     fn fmt(&self, f: &mut fmt::Formatter<'_>) -> fmt::Result {

@@ -52,17 +52,40 @@
 //! # Ok::<(), halfgates::Fault>(())
 //! ```
 //!
+//! # In pieces
+//!
+//! A [`Garbler`] produces its row pairs in pieces, which leave while the next ones are made, and an
+//! [`Evaluator`] takes them as they come. Neither keeps row pairs.
+//!
+//! ```
+//! use halfgates::{decode, Circuit};
+//!
+//! let and = Circuit::read("1 3\n2 1 1\n1 1\n2 1 0 1 2 AND")?;
+//! let mut garbler = and.garbler(&[0; 32])?;
+//! let inputs = [garbler.input_labels(0)?[0][1], garbler.input_labels(1)?[0][1]];
+//!
+//! let mut evaluator = and.evaluator(0, &inputs)?;
+//! for piece in garbler.pieces(4096) {
+//!     evaluator.feed_rows(&piece?)?;
+//! }
+//! assert_eq!(decode(&evaluator.output_labels()?, &garbler.decode_bits()?)?, [true]);
+//! # Ok::<(), halfgates::Fault>(())
+//! ```
+//!
 //! # Secrets
 //!
-//! Whoever has a seed or a [`Garbling`] knows every label. The vectors that calls return are not
-//! wiped when they are dropped. `SECURITY.md` of the repository says what the library promises.
+//! Whoever has a seed, a [`Garbling`] or a [`Garbler`] knows every label. The vectors that calls
+//! return are not wiped when they are dropped. `SECURITY.md` of the repository says what the library
+//! promises.
 
 mod call;
 mod circuit;
 mod fault;
 mod garbling;
+mod gates;
 mod job;
 mod report;
+mod streaming;
 mod sys;
 
 use call::{bits_of, filled};
@@ -70,10 +93,13 @@ use call::{bits_of, filled};
 pub use circuit::Circuit;
 pub use fault::Fault;
 pub use garbling::{write_many, Garbling};
-pub use job::{evaluate_many, Job};
+pub use gates::{Gate, GateFault, Operation};
+pub use job::{evaluate_each, evaluate_many, Job};
 pub use report::{
     EntryDifference, GarbledReport, LabelsReport, Place, RowDifference, Verdict, WireLabels,
 };
+
+pub use streaming::{Evaluator, Garbler, Pieces};
 
 /// A label of a wire. Its colour, by which rows are chosen, is the lowest bit of the first byte.
 pub type Label = [u8; 16];

@@ -9,9 +9,6 @@ use std::mem::size_of;
 pub const OK: i32 = 0;
 pub const NO_SUCH_VALUE: i32 = 42;
 pub const WRONG_WIDTH: i32 = 43;
-/// A verdict on a label file, and no fault.
-#[cfg(test)]
-pub const WRONG_LABEL: i32 = 63;
 pub const NONE: u32 = u32::MAX;
 
 macro_rules! handles {
@@ -26,7 +23,12 @@ macro_rules! handles {
     };
 }
 
-handles! { halfgates_circuit halfgates_garbling halfgates_job }
+handles! {
+    halfgates_circuit halfgates_garbling halfgates_job halfgates_garbler halfgates_evaluator
+}
+
+/// A gate, which `Gate` is in place of.
+pub type halfgates_gate = crate::gates::Gate;
 
 #[repr(C)]
 pub struct halfgates_name {
@@ -91,6 +93,7 @@ pub struct halfgates_labels_report {
 // The sizes of the header's structures on 64-bit Linux.
 const _: () = {
     assert!(size_of::<halfgates_numbers>() == 28);
+    assert!(size_of::<halfgates_gate>() == 16);
     assert!(size_of::<halfgates_place>() == 32);
     assert!(size_of::<halfgates_wire_labels>() == 33);
     assert!(size_of::<halfgates_audit_report>() == 28);
@@ -139,6 +142,17 @@ extern "C" {
     ) -> i32;
     pub fn halfgates_circuit_digest(circuit: *const halfgates_circuit, digest: *mut u8) -> i32;
     pub fn halfgates_locate(text: *const u8, length: usize, place: *mut halfgates_place) -> i32;
+    pub fn halfgates_circuit_from_gates(
+        gates: *const halfgates_gate,
+        count: usize,
+        wires: u32,
+        input_widths: *const u32,
+        input_values: usize,
+        output_widths: *const u32,
+        output_values: usize,
+        circuit: *mut *mut halfgates_circuit,
+        place: *mut halfgates_place,
+    ) -> i32;
     pub fn halfgates_plain(
         circuit: *const halfgates_circuit,
         bits: *const u8,
@@ -225,6 +239,21 @@ extern "C" {
         one: *mut u8,
         size: usize,
     ) -> i32;
+    pub fn halfgates_rows_range(
+        garbling: *const halfgates_garbling,
+        from: u32,
+        count: u32,
+        rows: *mut u8,
+        size: usize,
+    ) -> i32;
+    pub fn halfgates_open(
+        garbling: *const halfgates_garbling,
+        index: u32,
+        labels: *const u8,
+        labels_size: usize,
+        bits: *mut u8,
+        size: usize,
+    ) -> i32;
     pub fn halfgates_rows(garbling: *const halfgates_garbling, rows: *mut u8, size: usize) -> i32;
     pub fn halfgates_decode_bits(
         garbling: *const halfgates_garbling,
@@ -268,6 +297,13 @@ extern "C" {
         bits: *mut u8,
         size: usize,
     ) -> i32;
+    pub fn halfgates_evaluate_each(
+        jobs: *const *mut halfgates_job,
+        count: usize,
+        bits: *mut u8,
+        size: usize,
+        codes: *mut i32,
+    ) -> i32;
     pub fn halfgates_job_output_labels(
         job: *const halfgates_job,
         outputs: *mut u8,
@@ -289,6 +325,66 @@ extern "C" {
         decode_bits: *const u8,
         count: usize,
         bits: *mut u8,
+        size: usize,
+    ) -> i32;
+
+    pub fn halfgates_garbler_begin(
+        circuit: *const halfgates_circuit,
+        seed: *const u8,
+        garbler: *mut *mut halfgates_garbler,
+    ) -> i32;
+    pub fn halfgates_garbler_begin_from(
+        circuit: *const halfgates_circuit,
+        offset: *const u8,
+        zero_labels: *const u8,
+        size: usize,
+        first: u64,
+        garbler: *mut *mut halfgates_garbler,
+    ) -> i32;
+    pub fn halfgates_garbler_free(garbler: *mut halfgates_garbler);
+    pub fn halfgates_garbler_offset(garbler: *const halfgates_garbler, offset: *mut u8) -> i32;
+    pub fn halfgates_garbler_input_labels(
+        garbler: *const halfgates_garbler,
+        index: u32,
+        zero: *mut u8,
+        one: *mut u8,
+        size: usize,
+    ) -> i32;
+    pub fn halfgates_garbler_next(
+        garbler: *mut halfgates_garbler,
+        rows: *mut u8,
+        size: usize,
+        written: *mut usize,
+    ) -> i32;
+    pub fn halfgates_garbler_output_labels(
+        garbler: *const halfgates_garbler,
+        index: u32,
+        zero: *mut u8,
+        one: *mut u8,
+        size: usize,
+    ) -> i32;
+    pub fn halfgates_garbler_decode_bits(
+        garbler: *const halfgates_garbler,
+        bits: *mut u8,
+        size: usize,
+    ) -> i32;
+    pub fn halfgates_evaluator_begin(
+        circuit: *const halfgates_circuit,
+        first: u64,
+        labels: *const u8,
+        size: usize,
+        evaluator: *mut *mut halfgates_evaluator,
+    ) -> i32;
+    pub fn halfgates_evaluator_free(evaluator: *mut halfgates_evaluator);
+    pub fn halfgates_evaluator_feed(
+        evaluator: *mut halfgates_evaluator,
+        rows: *const u8,
+        size: usize,
+        taken: *mut usize,
+    ) -> i32;
+    pub fn halfgates_evaluator_output_labels(
+        evaluator: *const halfgates_evaluator,
+        labels: *mut u8,
         size: usize,
     ) -> i32;
 

@@ -9,8 +9,8 @@ use std::process::{Command, Stdio};
 use std::thread;
 
 use halfgates::{
-    decode, evaluate_many, locate, write_many, Circuit, Fault, Garbling, Job, Label, Verdict,
-    Version,
+    decode, evaluate_each, evaluate_many, locate, write_many, Circuit, Evaluator, Fault, Garbler,
+    Garbling, Gate, GateFault, Job, Label, RowPair, Verdict, Version,
 };
 
 const FULL_ADDER: &str = include_str!("../../examples/full_adder.txt");
@@ -340,6 +340,11 @@ fn lists_of_jobs() {
     files[1][16..].fill(0xaa);
     jobs[5] = circuit.bind(&garbled, &files).unwrap();
     assert_eq!(evaluate_many(&jobs), Err(Fault::UNKNOWN_OUTPUT_LABEL));
+    let each: Vec<_> = jobs.iter().map(Job::evaluate).collect();
+    assert_eq!(each.iter().filter(|it| it.is_err()).count(), 1);
+    assert_eq!(each[5], Err(Fault::UNKNOWN_OUTPUT_LABEL));
+    assert_eq!(evaluate_each(&jobs), Ok(each));
+    assert_eq!(evaluate_each::<Job>(&[]), Ok(Vec::new()));
 }
 
 /// Lends its first item once, and then its second.
@@ -368,8 +373,10 @@ fn a_list_whose_items_change() {
         &[broad.deal(0, &bits).unwrap()],
     );
     let jobs = [and.bind(&file, &ones).unwrap(), job.unwrap()];
-    let outputs = evaluate_many(&[Changing(jobs, Cell::new(false))]);
-    assert_eq!(outputs, Ok(vec![vec![true]]));
+    let changing = [Changing(jobs, Cell::new(false))];
+    assert_eq!(evaluate_many(&changing), Ok(vec![vec![true]]));
+    changing[0].1.set(false);
+    assert_eq!(evaluate_each(&changing), Ok(vec![Ok(vec![true])]));
 }
 
 #[test]
@@ -385,6 +392,227 @@ fn rows_and_labels_of_a_wrong_number() {
     );
     assert_eq!(decode(&labels, &[true]), Err(Fault::WRONG_SIZE));
     assert_eq!(decode(&[], &[]), Ok(Vec::new()));
+}
+
+/// Seven AND gates in a chain, with a gate behind each.
+fn chain() -> Circuit {
+    let mut gates = Vec::new();
+    for wire in (2..16).step_by(2) {
+        gates.extend([Gate::and(wire - 1, 0, wire), Gate::inv(wire, wire + 1)]);
+    }
+    Circuit::from_gates(&gates, 16, &[1, 1], &[1, 1]).unwrap()
+}
+
+#[test]
+fn pieces_of_each_size() {
+    let circuit = chain();
+    let garbling = circuit.garble(&SEED).unwrap();
+    let rows = garbling.rows().unwrap();
+    let labels: Vec<Label> = (0..2)
+        .map(|index| garbling.input_labels(index).unwrap()[0][1])
+        .collect();
+    for count in 0..9 {
+        let mut garbler = circuit.garbler(&SEED).unwrap();
+        let mut evaluator = circuit.evaluator(0, &labels).unwrap();
+        assert_eq!(garbler.offset(), garbling.offset());
+        let pieces: Vec<_> = garbler.pieces(count).map(Result::unwrap).collect();
+        let sizes: Vec<_> = rows.chunks(count.max(1)).collect();
+        assert_eq!(pieces, sizes);
+        assert_eq!((garbler.left(), garbler.pieces(count).count()), (0, 0));
+        for piece in &pieces {
+            assert_eq!(evaluator.output_labels(), Err(Fault::UNFINISHED));
+            evaluator.feed_rows(piece).unwrap();
+        }
+        for index in 0..2 {
+            assert_eq!(garbler.input_labels(index), garbling.input_labels(index));
+            assert_eq!(garbler.output_labels(index), garbling.output_labels(index));
+        }
+        assert_eq!(garbler.decode_bits(), garbling.decode_bits());
+        let expected = circuit.evaluate_labels(&rows, &labels, 0);
+        assert_eq!((evaluator.left(), evaluator.output_labels()), (0, expected));
+    }
+}
+
+#[test]
+fn bytes_that_end_within_a_row_pair() {
+    let circuit = chain();
+    let mut garbler = circuit.garbler(&SEED).unwrap();
+    let mut evaluator = circuit.evaluator(0, &[[1; 16], [2; 16]]).unwrap();
+    let (mut sent, mut received) = (Vec::new(), Vec::new());
+    let mut buffer = [0xa5; 100];
+    while garbler.left() > 0 {
+        let written = garbler.bytes_into(&mut buffer).unwrap();
+        assert_eq!(buffer[written..], [0xa5; 100][written..]);
+        sent.extend_from_slice(&buffer[..written]);
+        buffer.fill(0xa5);
+    }
+    assert_eq!(garbler.bytes_into(&mut []), Ok(0));
+    for part in sent.chunks(45) {
+        received.extend_from_slice(part);
+        let taken = evaluator.feed(&received).unwrap();
+        assert_eq!(taken, received.len() / 32 * 32);
+        received.drain(..taken);
+    }
+    assert!(received.is_empty());
+    let rows = circuit.garble(&SEED).unwrap().rows().unwrap();
+    let bytes: Vec<u8> = rows.iter().flat_map(|it| it.to_bytes()).collect();
+    assert_eq!(sent, bytes);
+    assert_eq!(
+        evaluator.output_labels(),
+        circuit.evaluate_labels(&rows, &[[1; 16], [2; 16]], 0)
+    );
+}
+
+#[test]
+fn what_streaming_refuses() {
+    let circuit = adder();
+    let (mut garbler, offset) = (circuit.garbler(&SEED).unwrap(), [1; 16]);
+    let mut evaluator = circuit.evaluator(0, &[[3; 16]; 3]).unwrap();
+    let begin = |offset, count, first| {
+        circuit
+            .garbler_from(offset, &[[3; 16]; 4][..count], first)
+            .map(drop)
+    };
+    assert_eq!(begin(&offset, 3, (1 << 62) - 1), Ok(()));
+    assert_eq!(begin(&offset, 3, 1 << 62), Err(Fault::BAD_ARGUMENT));
+    assert_eq!(begin(&[2; 16], 3, 0), Err(Fault::BAD_ARGUMENT));
+    assert_eq!(begin(&[2; 16], 2, 0), Err(Fault::WRONG_SIZE));
+    assert_eq!(begin(&offset, 4, 0), Err(Fault::WRONG_SIZE));
+    let begin = |count, first| circuit.evaluator(first, &[[3; 16]; 4][..count]).map(drop);
+    assert_eq!(begin(3, 1 << 62), Err(Fault::BAD_ARGUMENT));
+    assert_eq!(begin(2, 1 << 62), Err(Fault::WRONG_SIZE));
+
+    for index in [0, 1, usize::MAX] {
+        assert_eq!(garbler.output_labels(index), Err(Fault::UNFINISHED));
+    }
+    assert_eq!(garbler.decode_bits(), Err(Fault::UNFINISHED));
+    assert_eq!(garbler.input_labels(3), Err(Fault::NO_SUCH_VALUE));
+    assert_eq!(garbler.bytes_into(&mut [0; 31]), Err(Fault::SMALL_BUFFER));
+    assert_eq!(garbler.rows_into(&mut []), Err(Fault::SMALL_BUFFER));
+    assert_eq!(evaluator.output_labels(), Err(Fault::UNFINISHED));
+    let mut rows = [RowPair::from([7; 32]); 2];
+    assert_eq!(evaluator.feed_rows(&rows), Err(Fault::WRONG_SIZE));
+    assert_eq!(evaluator.feed(&[0; 64]), Err(Fault::WRONG_SIZE));
+    assert_eq!((garbler.left(), evaluator.left()), (1, 1));
+
+    assert_eq!(garbler.rows_into(&mut rows), Ok(1));
+    assert_eq!(garbler.rows_into(&mut []), Ok(0));
+    assert_eq!(rows[..1], garbling().rows().unwrap());
+    assert_eq!(rows[1], RowPair::from([7; 32]));
+    assert_eq!(garbler.output_labels(1), Err(Fault::NO_SUCH_VALUE));
+    assert_eq!(evaluator.feed(&[0; 63]), Ok(32));
+    assert_eq!(evaluator.feed(&[0; 31]), Ok(0));
+    assert_eq!(evaluator.feed(&[0; 32]), Err(Fault::WRONG_SIZE));
+    assert_eq!(
+        format!("{garbler:?} {evaluator:?}"),
+        "Garbler { left: 0, .. } Evaluator { left: 0, .. }"
+    );
+}
+
+/// They outlive their circuit, and go on on another thread.
+#[test]
+fn streams_on_other_threads() {
+    let (circuit, expected) = (chain(), chain().garble(&SEED).unwrap().rows());
+    let garblers: Vec<_> = (0..4).map(|_| circuit.garbler(&SEED).unwrap()).collect();
+    drop(circuit);
+    let collect = |mut garbler: Garbler| garbler.pieces(2).collect::<Result<Vec<_>, _>>();
+    let threads: Vec<_> = garblers
+        .into_iter()
+        .map(|it| thread::spawn(move || collect(it)))
+        .collect();
+    for thread in threads {
+        assert_eq!(thread.join().unwrap().map(|it| it.concat()), expected);
+    }
+}
+
+#[test]
+fn a_circuit_without_and_gates() {
+    let circuit = Circuit::from_gates(&[Gate::xor(0, 1, 2)], 3, &[2], &[1]).unwrap();
+    let (garbling, labels) = (circuit.garble(&SEED).unwrap(), [[1; 16], [3; 16]]);
+    let mut garbler = circuit.garbler(&SEED).unwrap();
+    assert_eq!(garbler.decode_bits(), garbling.decode_bits());
+    assert_eq!(garbler.output_labels(0), garbling.output_labels(0));
+    assert_eq!(
+        (garbler.pieces(1).count(), garbler.rows_into(&mut [])),
+        (0, Ok(0))
+    );
+    let evaluator = circuit.evaluator(0, &labels).unwrap();
+    assert_eq!(evaluator.output_labels(), Ok(vec![[2; 16]]));
+}
+
+#[test]
+fn circuits_from_gates() {
+    let mut gates = vec![
+        Gate::xor(0, 2, 3),
+        Gate::xor(1, 2, 4),
+        Gate::and(3, 4, 5),
+        Gate::xor(3, 1, 6),
+        Gate::xor(5, 2, 7),
+    ];
+    let made = |gates: &[Gate]| Circuit::from_gates(gates, 8, &[1, 1, 1], &[2]);
+    assert_eq!(made(&gates).unwrap().text(), adder().text());
+    gates[2].second = 7;
+    let fault = made(&gates).unwrap_err();
+    let GateFault { gate, wire, .. } = fault;
+    assert_eq!((fault.fault, gate, wire), (Fault::UNSET, Some(2), Some(7)));
+    assert_eq!(fault.to_string(), "fault 8 Unset, gate 2, wire 7");
+    assert_eq!(Fault::from(fault), Fault::UNSET);
+
+    let all = [Gate::constant(true, 1), Gate::copy(0, 2), Gate::inv(1, 3)];
+    let circuit = Circuit::from_gates(&all, 4, &[1], &[2, 1]).unwrap();
+    assert_eq!(circuit.plain(&[true]), Ok(vec![true, true, false]));
+    let refused = |wires, widths: &[usize]| {
+        let fault = Circuit::from_gates(&[], wires, widths, &[]).unwrap_err();
+        assert_eq!((fault.gate, fault.wire), (None, None));
+        fault.fault
+    };
+    assert_eq!(refused(1, &[2]), Fault::WIDTHS_EXCEED_WIRES);
+    assert_eq!(refused((1 << 25) + 1, &[]), Fault::TOO_LARGE);
+    assert_eq!(refused(1 << 32, &[]), Fault::BAD_NUMBER);
+    assert_eq!(refused(1, &[1 << 32]), Fault::BAD_NUMBER);
+    assert_eq!(Circuit::from_gates(&[], 0, &[], &[]).unwrap().wires(), 0);
+}
+
+#[test]
+fn ranges_of_row_pairs() {
+    let garbling = chain().garble(&SEED).unwrap();
+    let rows = garbling.rows().unwrap();
+    for from in 0..=7 {
+        for to in from..=7 {
+            assert_eq!(garbling.rows_range(from..to).unwrap(), rows[from..to]);
+        }
+    }
+    for (from, to) in [
+        (0, 8),
+        (8, 8),
+        (3, 2),
+        (usize::MAX, usize::MAX),
+        (0, 1 << 33),
+    ] {
+        assert_eq!(garbling.rows_range(from..to), Err(Fault::BAD_ARGUMENT));
+    }
+}
+
+#[test]
+fn labels_that_are_opened() {
+    let garbling = garbling();
+    let pairs = garbling.output_labels(0).unwrap();
+    for (first, second) in [(0, 0), (0, 1), (1, 0), (1, 1)] {
+        let labels = [pairs[0][first], pairs[1][second]];
+        assert_eq!(garbling.open(0, &labels), Ok(vec![first == 1, second == 1]));
+    }
+    let (zero, mut wrong) = ([pairs[0][0], pairs[1][0]], [pairs[0][0], pairs[1][0]]);
+    for byte in 0..16 {
+        wrong[1][byte] ^= 1;
+        assert_eq!(garbling.open(0, &wrong), Err(Fault::WRONG_LABEL));
+        wrong[1][byte] ^= 1;
+    }
+    assert_eq!(garbling.open(0, &zero[..1]), Err(Fault::WRONG_SIZE));
+    assert_eq!(
+        garbling.open(0, &[zero[1], zero[0]]),
+        Err(Fault::WRONG_LABEL)
+    );
+    assert_eq!(garbling.open(1, &zero), Err(Fault::NO_SUCH_VALUE));
 }
 
 #[test]
@@ -541,6 +769,8 @@ fn what_crosses_threads() {
     crosses::<Circuit>();
     crosses::<Garbling>();
     crosses::<Job>();
+    crosses::<Garbler>();
+    crosses::<Evaluator>();
 }
 
 #[test]

@@ -4,7 +4,7 @@
 use std::fmt::Write;
 use std::fs;
 
-use halfgates::{Circuit, Fault, Version};
+use halfgates::{Circuit, Fault, Gate, Version};
 
 const GATES: usize = 10_000;
 const MEGABYTES: usize = 3;
@@ -44,5 +44,16 @@ fn handles_are_freed() -> Result<(), Fault> {
     assert_freed(|| circuit.garble(&[1; 32]).map(drop));
     assert_freed(|| circuit.garble_many(&[[1; 32]; 2]).map(drop));
     assert_freed(|| circuit.bind(&file, &labels).map(drop));
+    assert_freed(|| circuit.garbler(&[1; 32]).map(drop));
+    assert_freed(|| circuit.evaluator(0, &[[1; 16]; 2]).map(drop));
+    let gates: Vec<Gate> = (2..)
+        .map(|it| Gate::and(it - 1, 0, it))
+        .take(GATES)
+        .collect();
+    assert_freed(|| {
+        Circuit::from_gates(&gates, GATES + 2, &[1, 1], &[1])
+            .map(drop)
+            .map_err(Fault::from)
+    });
     Ok(())
 }

@@ -178,6 +178,27 @@ fn check_link(vector: Vector, offset: &Label) -> Result<(), Fault> {
     assert_eq!(zero, labels_of(&vector.strings("output_zero_labels")));
     assert_eq!(one, labels_of(&vector.strings("output_one_labels")));
 
+    let mut garbler = circuit.garbler_from(
+        offset,
+        &labels_of(&vector.strings("input_zero_labels")),
+        first,
+    )?;
+    let mut evaluator =
+        circuit.evaluator(first, &labels_of(&vector.strings("active_input_labels")))?;
+    let mut made = Vec::new();
+    while garbler.left() > 0 {
+        let mut piece = [0; 3 * 32 + 1];
+        let written = garbler.bytes_into(&mut piece)?;
+        assert_eq!(evaluator.feed(&piece[..=written])?, written);
+        made.extend_from_slice(&piece[..written]);
+    }
+    assert_eq!(made, rows);
+    assert_eq!(garbler.decode_bits()?, garbling.decode_bits()?);
+    assert_eq!(
+        evaluator.output_labels()?,
+        labels_of(&vector.strings("active_output_labels"))
+    );
+
     let active = labels_of(&vector.strings("active_input_labels"));
     let found = circuit.evaluate_labels(&garbling.rows()?, &active, first)?;
     assert_eq!(found, labels_of(&vector.strings("active_output_labels")));

@@ -29,6 +29,7 @@ static void circuits(halfgates_circuit *circuit) {
     CHECK_CODE(HALFGATES_BAD_NUMBER, halfgates_circuit_read((const uint8_t *)"1\0002", 3, &made));
     CHECK_CODE(ABSENT, halfgates_circuit_order(NULL, &made));
     CHECK_CODE(ABSENT, halfgates_circuit_order(circuit, NULL));
+    CHECK_CODE(ABSENT, halfgates_circuit_from_gates(NULL, 0, 0, NULL, 0, NULL, 0, NULL, &place));
     CHECK(made == NULL);
     CHECK_CODE(ABSENT, halfgates_circuit_text(NULL, room, sizeof room, &written));
     CHECK_CODE(ABSENT, halfgates_circuit_text(circuit, room, sizeof room, NULL));
@@ -115,7 +116,48 @@ static void garble(halfgates_circuit *circuit, halfgates_garbling *garbling) {
     CHECK_CODE(BAD, halfgates_decode_bit(garbling, 2, room));
     CHECK_CODE(BAD, halfgates_decode_bit(garbling, UINT32_MAX, room));
     CHECK_CODE(ABSENT, halfgates_decode_bit(garbling, 0, NULL));
+    CHECK_CODE(ABSENT, halfgates_rows_range(NULL, 0, 1, room, 32));
+    CHECK_CODE(BAD, halfgates_rows_range(garbling, 0, 2, room, sizeof room));
+    CHECK_CODE(BAD, halfgates_rows_range(garbling, 1, 1, room, sizeof room));
+    CHECK_CODE(BAD, halfgates_rows_range(garbling, 2, 0, NULL, 0));
+    CHECK_CODE(BAD, halfgates_rows_range(garbling, UINT32_MAX, UINT32_MAX, NULL, 0));
+    CHECK_CODE(BAD, halfgates_rows_range(garbling, 1, UINT32_MAX, room, sizeof room));
+    CHECK_CODE(HALFGATES_SMALL_BUFFER, halfgates_rows_range(garbling, 0, 1, room, 31));
+    CHECK_CODE(HALFGATES_SMALL_BUFFER, halfgates_rows_range(garbling, 0, 1, NULL, 0));
+    CHECK_CODE(HALFGATES_OK, halfgates_rows_range(garbling, 0, 0, NULL, 0));
+    CHECK_CODE(HALFGATES_OK, halfgates_rows_range(garbling, 1, 0, room, sizeof room));
     check_untouched();
+}
+
+/* Labels that an evaluator returned: some of no wire, or of the other wire, are refused, and no bit is written. */
+static void open_labels(halfgates_garbling *garbling) {
+    uint8_t zero[32], one[32], given[33] = {0};
+    CHECK_CODE(HALFGATES_OK, halfgates_output_labels(garbling, 0, zero, one, 32));
+    memcpy(given, zero, 16);
+    memcpy(given + 16, one + 16, 16);
+    CHECK_CODE(ABSENT, halfgates_open(NULL, 0, given, 32, room, 2));
+    CHECK_CODE(HALFGATES_NO_SUCH_VALUE, halfgates_open(garbling, 1, given, 31, room, 1));
+    CHECK_CODE(HALFGATES_NO_SUCH_VALUE, halfgates_open(garbling, UINT32_MAX, given, 32, room, 2));
+    CHECK_CODE(HALFGATES_WRONG_SIZE, halfgates_open(garbling, 0, given, 31, room, 1));
+    CHECK_CODE(HALFGATES_WRONG_SIZE, halfgates_open(garbling, 0, given, 33, room, 2));
+    CHECK_CODE(HALFGATES_WRONG_SIZE, halfgates_open(garbling, 0, NULL, 0, room, 2));
+    CHECK_CODE(HALFGATES_SMALL_BUFFER, halfgates_open(garbling, 0, one + 16, 32, room, 1));
+    CHECK_CODE(HALFGATES_SMALL_BUFFER, halfgates_open(garbling, 0, given, 32, NULL, 0));
+    for (size_t i = 0; i < 32; i++) {
+        given[i] ^= (uint8_t)(1 << i % 8);
+        CHECK_CODE(HALFGATES_WRONG_LABEL, halfgates_open(garbling, 0, given, 32, room, 2));
+        given[i] ^= (uint8_t)(1 << i % 8);
+    }
+    memcpy(given, one + 16, 16);
+    CHECK_CODE(HALFGATES_WRONG_LABEL, halfgates_open(garbling, 0, given, 32, room, 2));
+    check_untouched();
+    for (unsigned bits = 0; bits < 4; bits++) {
+        memcpy(given, bits & 1 ? one : zero, 16);
+        memcpy(given + 16, (bits & 2 ? one : zero) + 16, 16);
+        CHECK_CODE(HALFGATES_OK, halfgates_open(garbling, 0, given, 32, room, 3));
+        CHECK(room[0] == (bits & 1) && room[1] == bits >> 1 && room[2] == 0xA5);
+    }
+    memset(room, 0xA5, 2);
 }
 
 static void deal(halfgates_circuit *circuit) {
@@ -154,6 +196,7 @@ static void wire_labels(halfgates_garbling *garbling) {
 static void jobs(halfgates_circuit *circuit, halfgates_job *job) {
     const size_t more[3] = {32, 32, 33}, wrapping[3] = {32, SIZE_MAX, 65}, late[2] = {1, 100};
     halfgates_job *const absent[3] = {job, NULL, job}, *const alike[2] = {job, job};
+    int32_t codes[3] = {-7, -7, -7};
     halfgates_job *made = NULL;
     CHECK_CODE(ABSENT, halfgates_job_bind(NULL, garbled, 177, labels, 96, SIZES, 3, &made));
     CHECK_CODE(ABSENT, halfgates_job_bind(circuit, garbled, 177, labels, 96, SIZES, 3, NULL));
@@ -177,6 +220,15 @@ static void jobs(halfgates_circuit *circuit, halfgates_job *job) {
     CHECK_CODE(HALFGATES_SMALL_BUFFER, halfgates_evaluate_many(alike, 2, room, 3));
     CHECK_CODE(HALFGATES_SMALL_BUFFER, halfgates_evaluate_many(alike, 2, NULL, 0));
     CHECK_CODE(HALFGATES_MEMORY, halfgates_evaluate_many(alike, SIZE_MAX, room, 4));
+    CHECK_CODE(ABSENT, halfgates_evaluate_each(NULL, 1, room, 2, codes));
+    CHECK_CODE(ABSENT, halfgates_evaluate_each(absent, 3, room, 6, codes));
+    CHECK_CODE(ABSENT, halfgates_evaluate_each(absent, 3, room, 5, codes));
+    CHECK_CODE(ABSENT, halfgates_evaluate_each(alike, 2, NULL, 4, codes));
+    CHECK_CODE(ABSENT, halfgates_evaluate_each(alike, 2, room, 4, NULL));
+    CHECK_CODE(HALFGATES_SMALL_BUFFER, halfgates_evaluate_each(alike, 2, room, 3, codes));
+    CHECK_CODE(HALFGATES_SMALL_BUFFER, halfgates_evaluate_each(alike, 2, NULL, 0, codes));
+    CHECK_CODE(HALFGATES_MEMORY, halfgates_evaluate_each(alike, SIZE_MAX, room, 4, codes));
+    CHECK(codes[0] == -7 && codes[1] == -7 && codes[2] == -7);
     check_untouched();
 }
 
@@ -194,11 +246,87 @@ static void audits(halfgates_garbling *garbling) {
     check_untouched();
 }
 
+/* A garbler and an evaluator of one AND gate: streaming.c has them with right arguments. */
+static void streaming(halfgates_circuit *circuit, halfgates_garbler *garbler, halfgates_evaluator *evaluator) {
+    const uint8_t offset[16] = {1}, even[16] = {2};
+    const uint64_t limit = UINT64_C(1) << 62;
+    halfgates_garbler *made = NULL;
+    halfgates_evaluator *made_evaluator = NULL;
+    CHECK_CODE(ABSENT, halfgates_garbler_begin(NULL, SEED, &made));
+    CHECK_CODE(ABSENT, halfgates_garbler_begin(circuit, NULL, &made));
+    CHECK_CODE(ABSENT, halfgates_garbler_begin(circuit, SEED, NULL));
+    CHECK_CODE(ABSENT, halfgates_garbler_begin_from(NULL, offset, labels, 48, 0, &made));
+    CHECK_CODE(ABSENT, halfgates_garbler_begin_from(circuit, NULL, labels, 48, 0, &made));
+    CHECK_CODE(ABSENT, halfgates_garbler_begin_from(circuit, offset, labels, 48, 0, NULL));
+    CHECK_CODE(HALFGATES_WRONG_SIZE, halfgates_garbler_begin_from(circuit, even, labels, 47, limit, &made));
+    CHECK_CODE(HALFGATES_WRONG_SIZE, halfgates_garbler_begin_from(circuit, offset, labels, 49, 0, &made));
+    CHECK_CODE(HALFGATES_WRONG_SIZE, halfgates_garbler_begin_from(circuit, offset, NULL, 0, 0, &made));
+    CHECK_CODE(BAD, halfgates_garbler_begin_from(circuit, even, labels, 48, 0, &made));
+    CHECK_CODE(BAD, halfgates_garbler_begin_from(circuit, offset, labels, 48, limit, &made));
+    CHECK_CODE(BAD, halfgates_garbler_begin_from(circuit, offset, labels, 48, UINT64_MAX, &made));
+    CHECK_CODE(ABSENT, halfgates_evaluator_begin(NULL, 0, labels, 48, &made_evaluator));
+    CHECK_CODE(ABSENT, halfgates_evaluator_begin(circuit, 0, labels, 48, NULL));
+    CHECK_CODE(HALFGATES_WRONG_SIZE, halfgates_evaluator_begin(circuit, limit, labels, 47, &made_evaluator));
+    CHECK_CODE(HALFGATES_WRONG_SIZE, halfgates_evaluator_begin(circuit, 0, labels, 49, &made_evaluator));
+    CHECK_CODE(HALFGATES_WRONG_SIZE, halfgates_evaluator_begin(circuit, 0, NULL, 0, &made_evaluator));
+    CHECK_CODE(BAD, halfgates_evaluator_begin(circuit, limit, labels, 48, &made_evaluator));
+    CHECK_CODE(BAD, halfgates_evaluator_begin(circuit, UINT64_MAX, labels, 48, &made_evaluator));
+    CHECK(made == NULL && made_evaluator == NULL);
+
+    CHECK_CODE(ABSENT, halfgates_garbler_offset(NULL, room));
+    CHECK_CODE(ABSENT, halfgates_garbler_offset(garbler, NULL));
+    CHECK_CODE(ABSENT, halfgates_garbler_input_labels(NULL, 0, room, room + 16, 16));
+    CHECK_CODE(HALFGATES_NO_SUCH_VALUE, halfgates_garbler_input_labels(garbler, 3, room, room + 16, 15));
+    CHECK_CODE(HALFGATES_NO_SUCH_VALUE, halfgates_garbler_input_labels(garbler, UINT32_MAX, room, room + 16, 16));
+    CHECK_CODE(HALFGATES_SMALL_BUFFER, halfgates_garbler_input_labels(garbler, 0, room, room + 16, 15));
+    CHECK_CODE(HALFGATES_SMALL_BUFFER, halfgates_garbler_input_labels(garbler, 0, NULL, NULL, 0));
+    CHECK_CODE(ABSENT, halfgates_garbler_next(NULL, room, sizeof room, &written));
+    CHECK_CODE(ABSENT, halfgates_garbler_next(garbler, room, sizeof room, NULL));
+    CHECK_CODE(HALFGATES_SMALL_BUFFER, halfgates_garbler_next(garbler, room, 31, &written));
+    CHECK_CODE(HALFGATES_SMALL_BUFFER, halfgates_garbler_next(garbler, NULL, 0, &written));
+    CHECK_CODE(ABSENT, halfgates_garbler_output_labels(NULL, 0, room, room + 32, 32));
+    CHECK_CODE(HALFGATES_UNFINISHED, halfgates_garbler_output_labels(garbler, 0, room, room + 32, 32));
+    CHECK_CODE(HALFGATES_UNFINISHED, halfgates_garbler_output_labels(garbler, 1, room, room + 32, 0));
+    CHECK_CODE(ABSENT, halfgates_garbler_decode_bits(NULL, room, 2));
+    CHECK_CODE(HALFGATES_UNFINISHED, halfgates_garbler_decode_bits(garbler, room, 2));
+    CHECK_CODE(HALFGATES_UNFINISHED, halfgates_garbler_decode_bits(garbler, NULL, 0));
+    CHECK_CODE(ABSENT, halfgates_evaluator_feed(NULL, labels, 32, &written));
+    CHECK_CODE(ABSENT, halfgates_evaluator_feed(evaluator, labels, 32, NULL));
+    CHECK_CODE(HALFGATES_WRONG_SIZE, halfgates_evaluator_feed(evaluator, labels, 64, &written));
+    CHECK_CODE(HALFGATES_WRONG_SIZE, halfgates_evaluator_feed(evaluator, labels, 95, &written));
+    CHECK_CODE(ABSENT, halfgates_evaluator_output_labels(NULL, room, 32));
+    CHECK_CODE(HALFGATES_UNFINISHED, halfgates_evaluator_output_labels(evaluator, room, 32));
+    CHECK_CODE(HALFGATES_UNFINISHED, halfgates_evaluator_output_labels(evaluator, NULL, 0));
+    check_untouched();
+}
+
+/* The same once the row pair is made and taken. */
+static void after_streaming(halfgates_garbler *garbler, halfgates_evaluator *evaluator) {
+    uint8_t rows[33];
+    CHECK_CODE(HALFGATES_OK, halfgates_garbler_next(garbler, rows, sizeof rows, &written));
+    CHECK(written == 32);
+    CHECK_CODE(HALFGATES_OK, halfgates_evaluator_feed(evaluator, rows, 33, &written));
+    CHECK(written == 32);
+    written = 7;
+    CHECK_CODE(ABSENT, halfgates_garbler_next(garbler, NULL, 0, NULL));
+    CHECK_CODE(HALFGATES_NO_SUCH_VALUE, halfgates_garbler_output_labels(garbler, 1, room, room + 32, 31));
+    CHECK_CODE(HALFGATES_SMALL_BUFFER, halfgates_garbler_output_labels(garbler, 0, room, room + 32, 31));
+    CHECK_CODE(HALFGATES_SMALL_BUFFER, halfgates_garbler_output_labels(garbler, 0, NULL, NULL, 0));
+    CHECK_CODE(HALFGATES_SMALL_BUFFER, halfgates_garbler_decode_bits(garbler, room, 1));
+    CHECK_CODE(HALFGATES_SMALL_BUFFER, halfgates_garbler_decode_bits(garbler, NULL, 0));
+    CHECK_CODE(HALFGATES_WRONG_SIZE, halfgates_evaluator_feed(evaluator, rows, 32, &written));
+    CHECK_CODE(HALFGATES_SMALL_BUFFER, halfgates_evaluator_output_labels(evaluator, room, 31));
+    CHECK_CODE(HALFGATES_SMALL_BUFFER, halfgates_evaluator_output_labels(evaluator, NULL, 0));
+    check_untouched();
+}
+
 /* What stood in the place of a new handle is overwritten, and never read: here it is no address. */
 static void places_of_handles(void) {
     halfgates_circuit *circuit = (halfgates_circuit *)1;
     halfgates_garbling *garbling = (halfgates_garbling *)1;
     halfgates_job *job = (halfgates_job *)1;
+    halfgates_garbler *garbler = (halfgates_garbler *)1;
+    halfgates_evaluator *evaluator = (halfgates_evaluator *)1;
     CHECK_CODE(HALFGATES_CIRCUIT_TRUNCATED, halfgates_circuit_read(NULL, 0, &circuit));
     CHECK(circuit == (halfgates_circuit *)1);
     CHECK_CODE(HALFGATES_OK, halfgates_circuit_read((const uint8_t *)FULL_ADDER, strlen(FULL_ADDER), &circuit));
@@ -208,24 +336,38 @@ static void places_of_handles(void) {
     CHECK_CODE(HALFGATES_FILE_TRUNCATED, halfgates_job_bind(circuit, garbled, 176, labels, 96, SIZES, 3, &job));
     CHECK(job == (halfgates_job *)1);
     CHECK_CODE(HALFGATES_OK, halfgates_job_bind(circuit, garbled, 177, labels, 96, SIZES, 3, &job));
+    CHECK_CODE(ABSENT, halfgates_garbler_begin(circuit, NULL, &garbler));
+    CHECK(garbler == (halfgates_garbler *)1);
+    CHECK_CODE(HALFGATES_OK, halfgates_garbler_begin(circuit, SEED, &garbler));
+    CHECK_CODE(HALFGATES_WRONG_SIZE, halfgates_evaluator_begin(circuit, 0, labels, 47, &evaluator));
+    CHECK(evaluator == (halfgates_evaluator *)1);
+    CHECK_CODE(HALFGATES_OK, halfgates_evaluator_begin(circuit, 0, labels, 48, &evaluator));
+    halfgates_garbler_free(garbler);
+    halfgates_evaluator_free(evaluator);
     halfgates_job_free(job);
     halfgates_garbling_free(garbling);
     halfgates_circuit_free(circuit);
 }
 
 /* A handle in the place of one of another type, which C lets pass with a cast. */
-static void other_types(void *circuit, void *garbling, void *job) {
+static void other_types(void *circuit, void *garbling, void *job, void *garbler, void *evaluator) {
     halfgates_circuit *made = NULL;
     halfgates_garbling *made_garbling = NULL;
     halfgates_job *made_job = NULL;
+    halfgates_garbler *made_garbler = NULL;
+    halfgates_evaluator *made_evaluator = NULL;
     halfgates_numbers numbers;
     halfgates_audit_report report;
     halfgates_labels_report labels_report;
     halfgates_wire_labels found[1];
     uint32_t widths[3];
-    void *const no_circuits[2] = {garbling, job}, *const no_garblings[2] = {circuit, job};
-    void *const no_jobs[2] = {circuit, garbling};
-    for (int i = 0; i < 2; i++) {
+    int32_t codes[3] = {-7, -7, -7};
+    void *const no_circuits[4] = {garbling, job, garbler, evaluator};
+    void *const no_garblings[4] = {circuit, job, garbler, evaluator};
+    void *const no_jobs[4] = {circuit, garbling, garbler, evaluator};
+    void *const no_garblers[4] = {circuit, garbling, job, evaluator};
+    void *const no_evaluators[4] = {circuit, garbling, job, garbler};
+    for (int i = 0; i < 4; i++) {
         CHECK_CODE(OTHER, halfgates_circuit_share(no_circuits[i], &made));
         CHECK_CODE(OTHER, halfgates_circuit_order(no_circuits[i], &made));
         CHECK_CODE(OTHER, halfgates_circuit_text(no_circuits[i], room, sizeof room, &written));
@@ -241,6 +383,9 @@ static void other_types(void *circuit, void *garbling, void *job) {
         CHECK_CODE(OTHER, halfgates_label_file(no_circuits[i], 0, labels, 16, room, 32, &written));
         CHECK_CODE(OTHER, halfgates_job_bind(no_circuits[i], garbled, 177, labels, 96, SIZES, 3, &made_job));
         CHECK_CODE(OTHER, halfgates_evaluate_labels(no_circuits[i], labels, 32, 0, labels, 48, room, 32));
+        CHECK_CODE(OTHER, halfgates_garbler_begin(no_circuits[i], SEED, &made_garbler));
+        CHECK_CODE(OTHER, halfgates_garbler_begin_from(no_circuits[i], SEED, labels, 48, 0, &made_garbler));
+        CHECK_CODE(OTHER, halfgates_evaluator_begin(no_circuits[i], 0, labels, 48, &made_evaluator));
 
         CHECK_CODE(OTHER, halfgates_garbling_write(no_garblings[i], 2, room, 177, &written));
         CHECK_CODE(OTHER, halfgates_garbling_write(no_garblings[i], 3, NULL, 0, &written));
@@ -253,6 +398,8 @@ static void other_types(void *circuit, void *garbling, void *job) {
         CHECK_CODE(OTHER, halfgates_input_labels(no_garblings[i], 0, room, room + 16, 16));
         CHECK_CODE(OTHER, halfgates_output_labels(no_garblings[i], 0, room, room + 32, 32));
         CHECK_CODE(OTHER, halfgates_rows(no_garblings[i], room, 32));
+        CHECK_CODE(OTHER, halfgates_rows_range(no_garblings[i], 0, 1, room, 32));
+        CHECK_CODE(OTHER, halfgates_open(no_garblings[i], 0, labels, 32, room, 2));
         CHECK_CODE(OTHER, halfgates_decode_bits(no_garblings[i], room, 2));
         CHECK_CODE(OTHER, halfgates_zero_label(no_garblings[i], 0, room));
         CHECK_CODE(OTHER, halfgates_decode_bit(no_garblings[i], 0, room));
@@ -265,8 +412,19 @@ static void other_types(void *circuit, void *garbling, void *job) {
         halfgates_job *const other_first[3] = {job, no_jobs[i], NULL}, *const null_first[3] = {job, NULL, no_jobs[i]};
         CHECK_CODE(OTHER, halfgates_evaluate_many(other_first, 3, room, 6));
         CHECK_CODE(ABSENT, halfgates_evaluate_many(null_first, 3, room, 6));
+        CHECK_CODE(OTHER, halfgates_evaluate_each(other_first, 3, room, 6, codes));
+        CHECK_CODE(ABSENT, halfgates_evaluate_each(null_first, 3, room, 6, codes));
+
+        CHECK_CODE(OTHER, halfgates_garbler_offset(no_garblers[i], room));
+        CHECK_CODE(OTHER, halfgates_garbler_input_labels(no_garblers[i], 0, room, room + 16, 16));
+        CHECK_CODE(OTHER, halfgates_garbler_next(no_garblers[i], room, 32, &written));
+        CHECK_CODE(OTHER, halfgates_garbler_output_labels(no_garblers[i], 0, room, room + 32, 32));
+        CHECK_CODE(OTHER, halfgates_garbler_decode_bits(no_garblers[i], room, 2));
+        CHECK_CODE(OTHER, halfgates_evaluator_feed(no_evaluators[i], labels, 32, &written));
+        CHECK_CODE(OTHER, halfgates_evaluator_output_labels(no_evaluators[i], room, 32));
     }
-    CHECK(made == NULL && made_garbling == NULL && made_job == NULL);
+    CHECK(made == NULL && made_garbling == NULL && made_job == NULL && made_garbler == NULL && made_evaluator == NULL);
+    CHECK(codes[0] == -7 && codes[1] == -7 && codes[2] == -7);
     check_untouched();
 }
 
@@ -277,7 +435,8 @@ static void names(void) {
     CHECK(strcmp(halfgates_fault_name(HALFGATES_NULL_POINTER).text, "NullPointer") == 0);
     CHECK(strcmp(halfgates_fault_name(HALFGATES_WRONG_HANDLE).text, "WrongHandle") == 0);
     CHECK(strcmp(halfgates_fault_name(HALFGATES_WRONG_SIZE).text, "WrongSize") == 0);
-    CHECK(strcmp(halfgates_fault_name(HALFGATES_WRONG_SIZE + 1).text, "Unknown") == 0);
+    CHECK(strcmp(halfgates_fault_name(HALFGATES_UNFINISHED).text, "Unfinished") == 0);
+    CHECK(strcmp(halfgates_fault_name(HALFGATES_UNFINISHED + 1).text, "Unknown") == 0);
     CHECK(strcmp(halfgates_fault_name(-1).text, "Unknown") == 0);
     CHECK(strcmp(halfgates_fault_name(INT32_MIN).text, "Unknown") == 0);
     CHECK(strcmp(halfgates_fault_name(INT32_MAX).text, "Unknown") == 0);
@@ -287,25 +446,34 @@ int main(void) {
     halfgates_circuit *circuit = read_text(FULL_ADDER);
     halfgates_garbling *garbling = NULL;
     halfgates_job *job = NULL;
+    halfgates_garbler *garbler = NULL;
+    halfgates_evaluator *evaluator = NULL;
     halfgates_circuit_free(NULL);
     halfgates_garbling_free(NULL);
     halfgates_job_free(NULL);
+    halfgates_garbler_free(NULL);
+    halfgates_evaluator_free(NULL);
     CHECK_CODE(HALFGATES_OK, halfgates_garble(circuit, SEED, &garbling));
     CHECK_CODE(HALFGATES_OK, halfgates_garbling_write(garbling, 2, garbled, sizeof garbled, &written));
     for (uint32_t i = 0; i < 3; i++)
         CHECK_CODE(HALFGATES_OK, halfgates_deal(circuit, SEED, i, BITS + i, 1, labels + 32 * i, 32, &written));
     CHECK_CODE(HALFGATES_OK, halfgates_job_bind(circuit, garbled, 177, labels, 96, SIZES, 3, &job));
+    CHECK_CODE(HALFGATES_OK, halfgates_garbler_begin(circuit, SEED, &garbler));
+    CHECK_CODE(HALFGATES_OK, halfgates_evaluator_begin(circuit, 0, labels, 48, &evaluator));
     memset(room, 0xA5, sizeof room);
     written = 7;
 
     circuits(circuit);
     plain(circuit);
     garble(circuit, garbling);
+    open_labels(garbling);
     deal(circuit);
     wire_labels(garbling);
     jobs(circuit, job);
     audits(garbling);
-    other_types(circuit, garbling, job);
+    streaming(circuit, garbler, evaluator);
+    other_types(circuit, garbling, job, garbler, evaluator);
+    after_streaming(garbler, evaluator);
     places_of_handles();
     names();
 
@@ -315,5 +483,7 @@ int main(void) {
     halfgates_circuit_free(circuit);
     halfgates_garbling_free(garbling);
     halfgates_job_free(job);
+    halfgates_garbler_free(garbler);
+    halfgates_evaluator_free(evaluator);
     return 0;
 }

@@ -134,6 +134,17 @@ void check_files(const halfgates::circuit &circuit, const halfgates::garbling &g
     CHECK(garbling.rows() == rows);
     const bytes file = garbling.write(1);
     CHECK(are_same(file.data() + 48, rows.data(), rows.size()));
+    for (std::uint32_t from = 0; from <= ANDS; from++)
+        for (std::uint32_t count = 0; count <= ANDS - from; count++)
+            CHECK(garbling.rows_range(from, count) ==
+                  bytes(rows.begin() + 32 * from, rows.begin() + 32 * (from + count)));
+    std::uint8_t room[33];
+    room[32] = 0xA5;
+    garbling.rows_range_into(1, 1, room, sizeof room);
+    CHECK(are_same(room, rows.data() + 32, 32) && room[32] == 0xA5);
+    throws(60, [&] { (void)garbling.rows_range(1, ANDS); });
+    throws(60, [&] { (void)garbling.rows_range(UINT32_MAX, UINT32_MAX); });
+    throws(61, [&] { garbling.rows_range_into(0, 2, room, sizeof room); });
 }
 
 /* Each field of a report is what the C call finds. */
@@ -205,8 +216,18 @@ void check_lists_of_jobs(const halfgates::circuit &circuit, const halfgates::gar
         CHECK(expected.back() == circuit.plain(bits) && jobs.back().outputs() == OUTPUTS);
     }
     const halfgates::seed other = seed_of(OTHER_SEED);
+    const std::vector<halfgates::outcome> all = halfgates::evaluate_each(jobs);
+    CHECK(all.size() == jobs.size() && halfgates::evaluate_each({}).empty());
+    for (std::size_t i = 0; i < jobs.size(); i++)
+        CHECK(all[i].code == HALFGATES_OK && all[i].bits == expected[i]);
     jobs[6] = circuit.bind(garbled, {circuit.deal(other, 0, {1}), circuit.deal(other, 1, {1, 1})});
     throws(48, [&] { (void)halfgates::evaluate_many(jobs); });
+    expected[6].clear();
+    std::size_t number = 0;
+    for (const halfgates::outcome &it : halfgates::evaluate_each(jobs)) {
+        CHECK(it.code == (number == 6 ? HALFGATES_UNKNOWN_OUTPUT_LABEL : HALFGATES_OK));
+        CHECK(it.bits == expected[number++]);
+    }
 }
 
 /* From labels of one's own, under a first AND number of one's own. */
@@ -226,6 +247,13 @@ void check_own_labels(const halfgates::circuit &circuit) {
         active[2] = bits[2] ? pairs[1].one[1] : pairs[1].zero[1];
         const halfgates::labels outputs = circuit.evaluate_labels(garbling.rows(), active, first);
         CHECK(halfgates::decode(outputs, garbling.decode_bits()) == circuit.plain(bits));
+        const halfgates::labels two(outputs.begin(), outputs.begin() + 2);
+        const bytes opened = garbling.open(0, two), plain = circuit.plain(bits);
+        CHECK(opened == bytes(plain.begin(), plain.begin() + 2));
+        CHECK(garbling.open(1, outputs[2]) == bytes{plain[2]});
+        throws(63, [&] { (void)garbling.open(1, outputs[1]); });
+        throws(66, [&] { (void)garbling.open(1, two); });
+        throws(42, [&] { (void)garbling.open(2, two); });
         const halfgates::label_pairs last = garbling.output_labels(1);
         CHECK(outputs[2] == (circuit.plain(bits)[2] ? last.one[0] : last.zero[0]));
     }
@@ -239,6 +267,85 @@ void check_own_labels(const halfgates::circuit &circuit) {
     throws(66, [&] { (void)halfgates::decode(zeros, {1}); });
     throws(15, [&] { (void)halfgates::decode(zeros, {1, 0, 2}); });
     throws(42, [&] { (void)circuit.label_file(2, zeros); });
+}
+
+/* What a garbler and an evaluator have in pieces is what the garbling and evaluate_labels have at once. */
+void check_pieces(const halfgates::circuit &circuit, halfgates::garbler garbler, const halfgates::garbling &garbling,
+                  std::uint64_t first, std::size_t and_gates) {
+    halfgates::labels active;
+    for (std::uint32_t index = 0; index < 2; index++) {
+        const halfgates::label_pairs expected = garbling.input_labels(index), found = garbler.input_labels(index);
+        CHECK(found.zero == expected.zero && found.one == expected.one);
+        active.insert(active.end(), found.one.begin(), found.one.end());
+    }
+    CHECK(garbler.offset() == garbling.offset() && garbler.left() == ANDS);
+    throws(42, [&] { (void)garbler.input_labels(2); });
+    throws(67, [&] { (void)garbler.output_labels(0); });
+    throws(67, [&] { (void)garbler.decode_bits(); });
+    throws(61, [&] { (void)garbler.next(0); });
+
+    halfgates::evaluator evaluator = circuit.evaluator(first, active);
+    bytes joined;
+    throws(67, [&] { (void)evaluator.output_labels(); });
+    throws(66, [&] { (void)evaluator.feed(bytes(32 * (ANDS + 1))); });
+    for (bytes rows = garbler.next(and_gates); !rows.empty(); rows = garbler.next(and_gates)) {
+        bytes more = rows;
+        more.resize(rows.size() + 31);
+        CHECK(evaluator.feed(more) == rows.size() && evaluator.feed(bytes(31)) == 0);
+        joined.insert(joined.end(), rows.begin(), rows.end());
+        CHECK(garbler.left() == ANDS - joined.size() / 32 && evaluator.left() == garbler.left());
+    }
+    CHECK(joined == garbling.rows() && garbler.next(0).empty());
+    for (std::uint32_t index = 0; index < 2; index++) {
+        const halfgates::label_pairs expected = garbling.output_labels(index), found = garbler.output_labels(index);
+        CHECK(found.zero == expected.zero && found.one == expected.one);
+    }
+    throws(42, [&] { (void)garbler.output_labels(2); });
+    CHECK(garbler.decode_bits() == garbling.decode_bits());
+    CHECK(evaluator.output_labels() == circuit.evaluate_labels(joined, active, first));
+}
+
+void check_streaming(const halfgates::circuit &circuit) {
+    const std::uint64_t first = (1ULL << 62) - ANDS;
+    const label offset = {{0x35, 1, 2}};
+    const halfgates::labels zeros(INPUTS, label{{7}});
+    for (std::size_t and_gates = 1; and_gates <= ANDS + 1; and_gates++) {
+        check_pieces(circuit, circuit.garbler(seed_of(SEED)), circuit.garble(seed_of(SEED)), 0, and_gates);
+        check_pieces(circuit, circuit.garbler_from(offset, zeros, first), circuit.garble_from(offset, zeros, first),
+                     first, and_gates);
+    }
+    throws(66, [&] { (void)circuit.garbler_from(offset, bytes(47), first); });
+    throws(60, [&] { (void)circuit.garbler_from(offset, zeros, first + 1); });
+    throws(66, [&] { (void)circuit.evaluator(first + 1, bytes(47)); });
+    throws(60, [&] { (void)circuit.evaluator(first + 1, zeros); });
+    bytes room(32 * ANDS + 7, 0xA5);
+    halfgates::garbler garbler = circuit.garbler(seed_of(SEED));
+    CHECK(garbler.rows_into(room.data(), 63) == 32 && garbler.rows_into(room.data() + 32, room.size() - 32) == 64);
+    CHECK(garbler.rows_into(nullptr, 0) == 0 && room.back() == 0xA5);
+    room.resize(32 * ANDS);
+    CHECK(room == circuit.garble(seed_of(SEED)).rows());
+}
+
+/* The gates of the circuit make it, and a gate that is wrong is named. */
+void check_gates(const halfgates::circuit &circuit) {
+    const std::uint32_t XOR = HALFGATES_XOR, AND = HALFGATES_AND, INV = HALFGATES_INV;
+    std::vector<halfgates_gate> gates = {{AND, 0, 1, 3}, {XOR, 0, 2, 4}, {AND, 4, 2, 5},
+                                         {INV, 3, 0, 6}, {AND, 5, 1, 7}, {XOR, 4, 5, 8}};
+    CHECK(halfgates::circuit::from_gates(gates, WIRES, {1, 2}, {2, 1}).digest() == circuit.digest());
+    gates[4].second = 8;
+    try {
+        (void)halfgates::circuit::from_gates(gates, WIRES, {1, 2}, {2, 1});
+        CHECK(!"it throws");
+    } catch (const halfgates::gate_fault &fault) {
+        CHECK(fault.code() == HALFGATES_UNSET && fault.gate() == 4 && fault.wire() == 8);
+    }
+    try {
+        (void)halfgates::circuit::from_gates({}, 1, {1, 2}, {});
+        CHECK(!"it throws");
+    } catch (const halfgates::gate_fault &fault) {
+        CHECK(fault.code() == HALFGATES_WIDTHS_EXCEED_WIRES && fault.gate() == HALFGATES_NONE);
+    }
+    CHECK(halfgates::circuit::from_gates({}, 0, {}, {}).numbers().wires == 0);
 }
 
 /* Garblings under several seeds are those under each of them. */
@@ -290,6 +397,8 @@ int main(int count, char **words) {
     check_lists_of_jobs(circuit, garbling);
     check_own_labels(circuit);
     check_many(circuit);
+    check_streaming(circuit);
+    check_gates(circuit);
     check_lists_of_garblings(circuit);
     CHECK(halfgates::locate(text).fault == HALFGATES_OK);
     CHECK(halfgates::locate(std::string("1 5 x")).column == 5);

@@ -16,6 +16,12 @@ AT(halfgates_numbers, output_wires, 16);
 AT(halfgates_numbers, input_values, 20);
 AT(halfgates_numbers, output_values, 24);
 
+SIZE(halfgates_gate, 16);
+AT(halfgates_gate, operation, 0);
+AT(halfgates_gate, first, 4);
+AT(halfgates_gate, second, 8);
+AT(halfgates_gate, set, 12);
+
 SIZE(halfgates_place, 32);
 AT(halfgates_place, fault, 0);
 AT(halfgates_place, gate, 4);

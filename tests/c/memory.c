@@ -104,6 +104,49 @@ static void work_on_labels(halfgates_circuit *circuit, halfgates_garbling *garbl
     halfgates_circuit_free(other);
 }
 
+/* Garbles and evaluates in pieces. Each growth is one of the calls that begin: none of the others allocates. */
+static void stream(halfgates_circuit *circuit) {
+    const uint8_t seed[32] = {8}, bits[3] = {1, 1, 0};
+    uint8_t offset[16], zeros[2][48], ones[2][48], active[48], rows[32], decode_bits[2], outputs[32], found[2];
+    size_t written, taken;
+    halfgates_garbler *garblers[2] = {NULL, NULL};
+    halfgates_evaluator *evaluator = NULL;
+    CALL(halfgates_garbler_begin(circuit, seed, &garblers[0]));
+    CALL(halfgates_garbler_offset(garblers[0], offset));
+    for (uint32_t i = 0; i < 3; i++)
+        CALL(halfgates_garbler_input_labels(garblers[0], i, zeros[0] + 16 * i, ones[0] + 16 * i, 16));
+    CALL(halfgates_garbler_begin_from(circuit, offset, zeros[0], sizeof zeros[0], 0, &garblers[1]));
+    for (size_t i = 0; i < 48; i++)
+        active[i] = (bits[i / 16] ? ones : zeros)[0][i];
+    CALL(halfgates_evaluator_begin(circuit, 0, active, sizeof active, &evaluator));
+    const long before = growths;
+    for (int i = 0; i < 2; i++) {
+        CHECK_CODE(HALFGATES_UNFINISHED, halfgates_garbler_decode_bits(garblers[i], decode_bits, 2));
+        CHECK_CODE(HALFGATES_OK, halfgates_garbler_next(garblers[i], rows, sizeof rows, &written));
+        CHECK_CODE(HALFGATES_OK, halfgates_garbler_output_labels(garblers[i], 0, zeros[i], ones[i], 32));
+        CHECK_CODE(HALFGATES_OK, halfgates_garbler_decode_bits(garblers[i], decode_bits, 2));
+        CHECK_CODE(HALFGATES_OK, halfgates_garbler_next(garblers[i], rows, sizeof rows, &taken));
+        CHECK(written == 32 && taken == 0);
+    }
+    CHECK_CODE(HALFGATES_OK, halfgates_evaluator_feed(evaluator, rows, sizeof rows, &taken));
+    CHECK_CODE(HALFGATES_OK, halfgates_evaluator_output_labels(evaluator, outputs, sizeof outputs));
+    CHECK(taken == 32 && growths == before);
+    CALL(halfgates_decode(outputs, sizeof outputs, decode_bits, 2, found, sizeof found));
+    CHECK(found[0] == 0 && found[1] == 1);
+    halfgates_garbler_free(garblers[0]);
+    halfgates_garbler_free(garblers[1]);
+    halfgates_evaluator_free(evaluator);
+}
+
+/* A range of row pairs, and labels that are opened. */
+static void give(halfgates_garbling *garbling) {
+    uint8_t zero[32], one[32], rows[32], bits[2];
+    CALL(halfgates_output_labels(garbling, 0, zero, one, 32));
+    CALL(halfgates_rows_range(garbling, 0, 1, rows, sizeof rows));
+    CALL(halfgates_open(garbling, 0, one, sizeof one, bits, sizeof bits));
+    CHECK(bits[0] == 1 && bits[1] == 1);
+}
+
 /* Five garblings, which are those under each seed alone: two pairs and one more. After a refusal none is left. */
 static void garble_many(halfgates_circuit *circuit) {
     enum { COUNT = 5 };
@@ -145,18 +188,42 @@ static void write_many(halfgates_circuit *circuit) {
     }
 }
 
-/* Nine jobs, of the full adder but for one in the middle: each has the bits that it has alone. Jobs that are refused
- * memory side by side are evaluated alone. */
+/* Nine jobs, of the full adder but for one in the middle. */
+enum { JOBS = 9, ONE = 4 };
+
+/* Evaluates jobs that have these bits, each with a code of its own. Where one is refused memory, the others have their
+ * bits. */
+static void evaluate_each(halfgates_job *const *jobs, const uint8_t *expected) {
+    const long before = live, refused = refusals;
+    uint8_t bits[2 * JOBS - 1];
+    int32_t codes[JOBS];
+    memset(bits, 2, sizeof bits);
+    const int32_t code = halfgates_evaluate_each(jobs, JOBS, bits, sizeof bits, codes);
+    CHECK(live == before);
+    if (code != HALFGATES_OK) {
+        CHECK_CODE(HALFGATES_MEMORY, code);
+        CHECK(refusals > refused);
+        return;
+    }
+    for (size_t i = 0, at = 0; i < JOBS; i++) {
+        const size_t wires = i == ONE ? 1 : 2;
+        CHECK(codes[i] == HALFGATES_OK || (codes[i] == HALFGATES_JOB_MEMORY && refusals > refused));
+        for (size_t k = at; k < at + wires; k++)
+            CHECK(bits[k] == (codes[i] == HALFGATES_OK ? expected[k] : 2));
+        at += wires;
+    }
+}
+
+/* Each job has the bits that it has alone. Jobs that are refused memory side by side are evaluated alone. */
 static void evaluate_many(halfgates_circuit *circuit) {
-    enum { COUNT = 9, ONE = 4 };
     const uint8_t seed[32] = {6};
     const size_t sizes[3] = {32, 32, 32};
-    uint8_t garbled[177], labels[96], outputs[2 * COUNT - 1], alone[2];
+    uint8_t garbled[177], labels[96], outputs[2 * JOBS - 1], alone[2];
     size_t written;
     halfgates_circuit *and_gate = NULL;
-    halfgates_job *jobs[COUNT] = {NULL};
+    halfgates_job *jobs[JOBS] = {NULL};
     CALL(halfgates_circuit_read((const uint8_t *)AND_GATE, strlen(AND_GATE), &and_gate));
-    for (uint8_t i = 0; i < COUNT; i++) {
+    for (uint8_t i = 0; i < JOBS; i++) {
         halfgates_circuit *of = i == ONE ? and_gate : circuit;
         const size_t values = i == ONE ? 2 : 3, size = halfgates_garbled_size(of, 2);
         halfgates_garbling *garbling = NULL;
@@ -170,14 +237,16 @@ static void evaluate_many(halfgates_circuit *circuit) {
         halfgates_garbling_free(garbling);
     }
     halfgates_circuit_free(and_gate);
-    CALL_THAT_MAY_GO_ON(halfgates_evaluate_many(jobs, COUNT, outputs, sizeof outputs));
-    for (size_t i = 0, at = 0; i < COUNT; i++) {
+    CALL_THAT_MAY_GO_ON(halfgates_evaluate_many(jobs, JOBS, outputs, sizeof outputs));
+    for (size_t i = 0, at = 0; i < JOBS; i++) {
         const size_t count = i == ONE ? 1 : 2;
         CALL(halfgates_evaluate(jobs[i], alone, count));
         CHECK(memcmp(outputs + at, alone, count) == 0);
         at += count;
-        halfgates_job_free(jobs[i]);
     }
+    evaluate_each(jobs, outputs);
+    for (size_t i = 0; i < JOBS; i++)
+        halfgates_job_free(jobs[i]);
 }
 
 /* The XOR gate that reads input wires alone comes before the AND gate. */
@@ -199,7 +268,9 @@ static void work(void) {
     uint8_t garbled[177], labels[96], outputs[2], found_bits[1];
     const size_t sizes[3] = {32, 32, 32};
     size_t written;
-    halfgates_circuit *circuit = NULL;
+    const halfgates_gate constant = {HALFGATES_EQ, 1, 0, 0};
+    const uint32_t width = 1;
+    halfgates_circuit *circuit = NULL, *taken = NULL;
     halfgates_garbling *garbling = NULL;
     halfgates_job *job = NULL;
     halfgates_place place;
@@ -209,6 +280,8 @@ static void work(void) {
 
     CALL(halfgates_locate(text, strlen(FULL_ADDER), &place));
     CALL(halfgates_circuit_read(text, strlen(FULL_ADDER), &circuit));
+    CALL(halfgates_circuit_from_gates(&constant, 1, 1, NULL, 0, &width, 1, &taken, NULL));
+    halfgates_circuit_free(taken);
     order(circuit);
     CALL(halfgates_plain(circuit, bits, 3, outputs, 2));
     CHECK(outputs[0] == 0 && outputs[1] == 1);
@@ -216,6 +289,8 @@ static void work(void) {
     garble_many(circuit);
     write_many(circuit);
     evaluate_many(circuit);
+    stream(circuit);
+    give(garbling);
     check_sizes(garbling);
     CALL(halfgates_garbling_write(garbling, 1, garbled, sizeof garbled, &written));
     CALL(halfgates_garbling_write(garbling, 2, garbled, sizeof garbled, &written));

@@ -52,6 +52,9 @@ int main(int count, char **words) {
     halfgates_circuit *circuit = NULL, *made = NULL;
     halfgates_garbling *garbling = NULL, *made_garbling = NULL;
     halfgates_job *job = NULL, *bound = NULL;
+    halfgates_garbler *garbler = NULL, *made_garbler = NULL;
+    halfgates_evaluator *evaluator = NULL, *made_evaluator = NULL;
+    int32_t codes[1];
     halfgates_place place;
     halfgates_wire_labels found[8];
     halfgates_audit_report report;
@@ -66,9 +69,14 @@ int main(int count, char **words) {
     for (uint32_t i = 0; i < 3; i++)
         CHECK_DONE(halfgates_deal, circuit, seed, i, bits + i, 1, labels + 32 * i, 32, &written);
     CHECK_DONE(halfgates_job_bind, circuit, garbled, 177, labels, 96, sizes, 3, &job);
+    CHECK_DONE(halfgates_garbler_begin, circuit, seed, &garbler);
+    CHECK_DONE(halfgates_evaluator_begin, circuit, 0, labels, 48, &evaluator);
 
     CHECK_REFUSED(halfgates_circuit_read, NULL, 1, &made);
     CHECK_REFUSED(halfgates_locate, NULL, 1, &place);
+    CHECK_REFUSED(halfgates_circuit_from_gates, NULL, 1, 1, NULL, 0, NULL, 0, &made, &place);
+    CHECK_REFUSED(halfgates_circuit_from_gates, NULL, 0, 0, NULL, 1, NULL, 0, &made, &place);
+    CHECK_REFUSED(halfgates_circuit_from_gates, NULL, 0, 0, NULL, 0, NULL, 1, &made, &place);
     CHECK_REFUSED(halfgates_circuit_input_widths, circuit, NULL, 1);
     CHECK_REFUSED(halfgates_circuit_input_widths, circuit, NULL, 3);
     CHECK_REFUSED(halfgates_circuit_output_widths, circuit, NULL, 1);
@@ -103,6 +111,11 @@ int main(int count, char **words) {
     CHECK_REFUSED(halfgates_evaluate_many, &job, 1, NULL, 1);
     CHECK_REFUSED(halfgates_evaluate_many, &job, 1, NULL, 2);
     CHECK_REFUSED(halfgates_evaluate_many, &bound, 1, room, 2);
+    CHECK_REFUSED(halfgates_evaluate_each, NULL, 1, room, 2, codes);
+    CHECK_REFUSED(halfgates_evaluate_each, &job, 1, NULL, 1, codes);
+    CHECK_REFUSED(halfgates_evaluate_each, &job, 1, NULL, 2, codes);
+    CHECK_REFUSED(halfgates_evaluate_each, &job, 1, room, 2, NULL);
+    CHECK_REFUSED(halfgates_evaluate_each, &bound, 1, room, 2, codes);
     CHECK_REFUSED(halfgates_job_output_labels, job, NULL, 1);
     CHECK_REFUSED(halfgates_job_output_labels, job, NULL, 32);
     CHECK_REFUSED(halfgates_garble_many, circuit, NULL, 1, &made_garbling);
@@ -122,11 +135,29 @@ int main(int count, char **words) {
     CHECK_REFUSED(halfgates_output_labels, garbling, 0, room, NULL, 32);
     CHECK_REFUSED(halfgates_rows, garbling, NULL, 1);
     CHECK_REFUSED(halfgates_rows, garbling, NULL, 32);
+    CHECK_REFUSED(halfgates_rows_range, garbling, 0, 1, NULL, 1);
+    CHECK_REFUSED(halfgates_rows_range, garbling, 0, 1, NULL, 32);
+    CHECK_REFUSED(halfgates_open, garbling, 0, NULL, 32, room, 2);
+    CHECK_REFUSED(halfgates_open, garbling, 0, labels, 32, NULL, 2);
     CHECK_REFUSED(halfgates_decode_bits, garbling, NULL, 1);
     CHECK_REFUSED(halfgates_decode_bits, garbling, NULL, 2);
     CHECK_REFUSED(halfgates_evaluate_labels, circuit, NULL, 32, 0, labels, 48, room, 32);
     CHECK_REFUSED(halfgates_evaluate_labels, circuit, labels, 32, 0, NULL, 48, room, 32);
     CHECK_REFUSED(halfgates_evaluate_labels, circuit, labels, 32, 0, labels, 48, NULL, 32);
+    CHECK_REFUSED(halfgates_garbler_begin_from, circuit, offset, NULL, 1, 0, &made_garbler);
+    CHECK_REFUSED(halfgates_garbler_begin_from, circuit, offset, NULL, 48, 0, &made_garbler);
+    CHECK_REFUSED(halfgates_garbler_input_labels, garbler, 0, NULL, room, 16);
+    CHECK_REFUSED(halfgates_garbler_input_labels, garbler, 0, room, NULL, 16);
+    CHECK_REFUSED(halfgates_garbler_next, garbler, NULL, 1, &written);
+    CHECK_REFUSED(halfgates_garbler_next, garbler, NULL, 32, &written);
+    CHECK_REFUSED(halfgates_garbler_output_labels, garbler, 0, NULL, room, 32);
+    CHECK_REFUSED(halfgates_garbler_output_labels, garbler, 0, room, NULL, 32);
+    CHECK_REFUSED(halfgates_garbler_decode_bits, garbler, NULL, 2);
+    CHECK_REFUSED(halfgates_evaluator_begin, circuit, 0, NULL, 1, &made_evaluator);
+    CHECK_REFUSED(halfgates_evaluator_begin, circuit, 0, NULL, 48, &made_evaluator);
+    CHECK_REFUSED(halfgates_evaluator_feed, evaluator, NULL, 1, &written);
+    CHECK_REFUSED(halfgates_evaluator_feed, evaluator, NULL, 32, &written);
+    CHECK_REFUSED(halfgates_evaluator_output_labels, evaluator, NULL, 32);
     CHECK_REFUSED(halfgates_decode, NULL, 32, bits, 2, room, 2);
     CHECK_REFUSED(halfgates_decode, labels, 32, NULL, 2, room, 2);
     CHECK_REFUSED(halfgates_decode, labels, 32, bits, 2, NULL, 2);
@@ -138,5 +169,7 @@ int main(int count, char **words) {
     CALLED(halfgates_circuit_free)(circuit);
     CALLED(halfgates_garbling_free)(garbling);
     CALLED(halfgates_job_free)(job);
+    CALLED(halfgates_garbler_free)(garbler);
+    CALLED(halfgates_evaluator_free)(evaluator);
     return failures > 0;
 }

@@ -68,6 +68,10 @@ void check_types() {
     static_assert(std::is_nothrow_move_constructible<circuit>::value, "handles are moved");
     static_assert(std::is_nothrow_move_constructible<halfgates::garbling>::value, "handles are moved");
     static_assert(std::is_nothrow_move_constructible<halfgates::job>::value, "handles are moved");
+    static_assert(std::is_nothrow_move_constructible<halfgates::garbler>::value, "handles are moved");
+    static_assert(std::is_nothrow_move_constructible<halfgates::evaluator>::value, "handles are moved");
+    static_assert(!std::is_copy_constructible<halfgates::garbler>::value, "handles aren't copied");
+    static_assert(!std::is_copy_constructible<halfgates::evaluator>::value, "handles aren't copied");
 }
 
 void check_seeds() {
@@ -220,16 +224,35 @@ void check_handles_of_nothing() {
     halfgates::circuit circuit;
     halfgates::garbling garbling;
     halfgates::job job;
-    CHECK(!circuit && !garbling && !job);
+    halfgates::garbler garbler;
+    halfgates::evaluator evaluator;
+    CHECK(!circuit && !garbling && !job && !garbler && !evaluator);
+    CHECK(garbler.left() == 0 && evaluator.left() == 0);
     CHECK(circuit.numbers().wires == 0 && circuit.input_widths().empty() && circuit.digest()[0] == 0);
     throws(64, "fault 64 NullPointer", [&] { (void)circuit.plain({}); });
     throws(64, "fault 64 NullPointer", [&] { (void)circuit.share(); });
     throws(64, "fault 64 NullPointer", [&] { (void)garbling.write(); });
     throws(64, "fault 64 NullPointer", [&] { (void)garbling.rows(); });
     throws(64, "fault 64 NullPointer", [&] { (void)job.evaluate(); });
+    throws(64, "fault 64 NullPointer", [&] { (void)garbling.rows_range(0, 0); });
+    throws(64, "fault 64 NullPointer", [&] { (void)garbling.open(0, {}); });
+    throws(64, "fault 64 NullPointer", [&] { (void)garbler.next(1); });
+    throws(64, "fault 64 NullPointer", [&] { (void)garbler.input_labels(0); });
+    throws(64, "fault 64 NullPointer", [&] { (void)garbler.decode_bits(); });
+    throws(64, "fault 64 NullPointer", [&] { (void)evaluator.feed({}); });
+    throws(64, "fault 64 NullPointer", [&] { (void)evaluator.output_labels(); });
+    throws(64, "fault 64 NullPointer", [] { (void)halfgates::evaluate_each(std::vector<halfgates::job>(1)); });
     throws(64, "fault 64 NullPointer", [] { (void)halfgates::write_many(std::vector<halfgates::garbling>(1)); });
     throws(64, "fault 64 NullPointer", [] { (void)halfgates::evaluate_many(std::vector<halfgates::job>(1)); });
     circuit = halfgates::circuit(TEXT);
+    garbler = circuit.garbler(seed_of(1));
+    evaluator = circuit.evaluator(0, halfgates::labels(3));
+    halfgates::garbler moved_garbler = std::move(garbler);
+    halfgates::evaluator moved_evaluator = std::move(evaluator);
+    throws(64, "fault 64 NullPointer", [&] { (void)garbler.offset(); });
+    CHECK(garbler.left() == 0 && evaluator.left() == 0 && moved_garbler.left() == 1);
+    throws(64, "fault 64 NullPointer", [&] { (void)evaluator.feed({}); });
+    CHECK(moved_evaluator.feed(moved_garbler.next(9)) == 32 && moved_evaluator.output_labels().size() == 2);
     garbling = circuit.garble(seed_of(1));
     job = circuit.bind(garbling.write(), {garbling.deal(0, {1}), garbling.deal(1, {0}), garbling.deal(2, {1})});
     CHECK(circuit && garbling && job && job.evaluate() == bytes({0, 1}));

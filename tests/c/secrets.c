@@ -83,13 +83,15 @@ static char *read_file(const char *path, size_t *size) {
 /* The values of a circuit, and its result. */
 struct values {
     halfgates_numbers numbers;
-    uint32_t widths[256];
+    uint32_t widths[256], output_width;
     uint8_t *bits, *outputs;
 };
 
 static struct values make_values(halfgates_circuit *circuit) {
     struct values it;
     CALL(0, halfgates_circuit_numbers(circuit, &it.numbers));
+    CALL(0, halfgates_circuit_output_widths(circuit, it.widths, it.numbers.output_values));
+    it.output_width = it.widths[0];
     CALL(0, halfgates_circuit_input_widths(circuit, it.widths, it.numbers.input_values));
     it.bits = take(it.numbers.input_wires);
     it.outputs = take(it.numbers.output_wires);
@@ -122,10 +124,15 @@ static void evaluate_many(uint32_t version, halfgates_job *job, const struct val
     const size_t count = values->numbers.output_wires;
     halfgates_job *const jobs[COUNT] = {job, job, job, job, job};
     uint8_t *outputs = take(COUNT * count);
+    int32_t codes[COUNT];
     CALL(version == 2 ? COUNT : 0, halfgates_evaluate_many(jobs, COUNT, outputs, COUNT * count));
     show(outputs, COUNT * count);
     for (size_t i = 0; i < COUNT; i++)
         CHECK(memcmp(outputs + i * count, values->outputs, count) == 0);
+    CALL(version == 2 ? COUNT : 0, halfgates_evaluate_each(jobs, COUNT, outputs, COUNT * count, codes));
+    show(outputs, COUNT * count), show(codes, sizeof codes);
+    for (size_t i = 0; i < COUNT; i++)
+        CHECK(codes[i] == HALFGATES_OK && memcmp(outputs + i * count, values->outputs, count) == 0);
     free(outputs);
 }
 
@@ -177,6 +184,16 @@ static uint8_t *choose(const uint8_t *zero, const uint8_t *offset, const uint8_t
     return active;
 }
 
+/* Output labels that come back are opened: that each is one of its wire's two is decided once. */
+static void open_labels(halfgates_garbling *garbling, const uint8_t *outputs, const struct values *values) {
+    uint8_t *bits = take(values->numbers.output_wires);
+    CALL(1, halfgates_open(garbling, 0, outputs, 16 * (size_t)values->output_width, bits,
+                           values->numbers.output_wires));
+    show(bits, values->output_width);
+    CHECK(memcmp(bits, values->outputs, values->output_width) == 0);
+    free(bits);
+}
+
 /* The evaluator's calls with labels of its own. Rows and decode bits are public. */
 static void evaluate_labels(halfgates_circuit *circuit, halfgates_garbling *garbling, uint64_t first,
                             const uint8_t *active, const struct values *values) {
@@ -184,13 +201,44 @@ static void evaluate_labels(halfgates_circuit *circuit, halfgates_garbling *garb
     const size_t rows_size = 32 * (size_t)values->numbers.and_gates;
     uint8_t *rows = take(rows_size), *decode_bits = take(count), *outputs = take(16 * count), *bits = take(count);
     CALL(0, halfgates_rows(garbling, rows, rows_size));
+    CALL(0, halfgates_rows_range(garbling, 1, values->numbers.and_gates - 1, rows + 32, rows_size - 32));
     CALL(0, halfgates_decode_bits(garbling, decode_bits, count));
     show(rows, rows_size), show(decode_bits, count);
     CALL(0, halfgates_evaluate_labels(circuit, rows, rows_size, first, active, inputs, outputs, 16 * count));
     CALL(0, halfgates_decode(outputs, 16 * count, decode_bits, count, bits, count));
     show(bits, count);
     CHECK(memcmp(bits, values->outputs, count) == 0);
+    open_labels(garbling, outputs, values);
     free(rows), free(decode_bits), free(outputs), free(bits);
+}
+
+/* The same as evaluate_labels in pieces of seven row pairs. All is secret but row pairs and decode bits. */
+static void stream(halfgates_circuit *circuit, halfgates_garbler *garbler, uint64_t first, const uint8_t *active,
+                   const struct values *values) {
+    const size_t count = values->numbers.output_wires, inputs = 16 * (size_t)values->numbers.input_wires;
+    const size_t room = 16 * (size_t)values->numbers.wires;
+    uint8_t *outputs = take(16 * count), *decode_bits = take(count), *bits = take(count), *zero = take(room);
+    uint8_t *one = take(room), rows[7 * 32], offset[16];
+    size_t written, taken;
+    halfgates_evaluator *evaluator = NULL;
+    CALL(0, halfgates_garbler_offset(garbler, offset));
+    CALL(0, halfgates_garbler_input_labels(garbler, 0, zero, one, room));
+    CALL(0, halfgates_evaluator_begin(circuit, first, active, inputs, &evaluator));
+    for (written = 1; written > 0;) {
+        CALL(0, halfgates_garbler_next(garbler, rows, sizeof rows, &written));
+        show(&written, sizeof written), show(rows, sizeof rows);
+        CALL(0, halfgates_evaluator_feed(evaluator, rows, written, &taken));
+    }
+    CALL(0, halfgates_garbler_output_labels(garbler, 0, zero, one, room));
+    CALL(0, halfgates_garbler_decode_bits(garbler, decode_bits, count));
+    CALL(0, halfgates_evaluator_output_labels(evaluator, outputs, 16 * count));
+    show(decode_bits, count);
+    CALL(0, halfgates_decode(outputs, 16 * count, decode_bits, count, bits, count));
+    show(bits, count);
+    CHECK(memcmp(bits, values->outputs, count) == 0);
+    halfgates_garbler_free(garbler);
+    halfgates_evaluator_free(evaluator);
+    free(outputs), free(decode_bits), free(bits), free(zero), free(one);
 }
 
 /* Both labels of each wire of the first input value and the first output value, and a label file for the first. */
@@ -213,6 +261,7 @@ static void garble_from_labels(halfgates_circuit *circuit, const struct values *
     const uint64_t first = 5;
     uint8_t *zero = take(16 * wires), offset[16], *active;
     halfgates_garbling *garbling = NULL;
+    halfgates_garbler *garbler = NULL;
     for (size_t i = 0; i < 16 * wires; i++)
         zero[i] = (uint8_t)(11 * i + i / 16);
     for (size_t i = 0; i < 16; i++)
@@ -222,8 +271,20 @@ static void garble_from_labels(halfgates_circuit *circuit, const struct values *
     active = choose(zero, offset, values->bits, wires);
     evaluate_labels(circuit, garbling, first, active, values);
     give_labels(circuit, garbling, active, values);
+    CALL(1, halfgates_garbler_begin_from(circuit, offset, zero, 16 * wires, first, &garbler));
+    stream(circuit, garbler, first, active, values);
     halfgates_garbling_free(garbling);
     free(zero), free(active);
+}
+
+/* A garbler under a seed, which is freed after a piece. */
+static void begin_under_a_seed(halfgates_circuit *circuit, const uint8_t *seed) {
+    uint8_t rows[64];
+    size_t written;
+    halfgates_garbler *garbler = NULL;
+    CALL(0, halfgates_garbler_begin(circuit, seed, &garbler));
+    CALL(0, halfgates_garbler_next(garbler, rows, sizeof rows, &written));
+    halfgates_garbler_free(garbler);
 }
 
 /* Three garblings: two side by side, and one alone. Their files are digested side by side. */
@@ -266,6 +327,7 @@ int main(int count, char **words) {
     for (uint32_t version = 1; version <= 2; version++)
         check_version(circuit, garbling, version, labels, labels_size, sizes, &values);
     garble_from_labels(circuit, &values);
+    begin_under_a_seed(circuit, seed);
     garble_many(circuit);
 
     halfgates_garbling_free(garbling);

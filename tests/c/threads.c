@@ -1,6 +1,7 @@
 /*
  * Eight threads, each with a handle of its own on one circuit, or with a circuit of its own; eight that use one circuit,
- * one garbling and one job at once; and a garbling that a thread hands to another.
+ * one garbling and one job at once, each with a garbler and an evaluator of its own; and a garbling and a garbler that
+ * a thread hands to another.
  */
 #include "check.h"
 #include <pthread.h>
@@ -59,6 +60,26 @@ struct shared {
     uint8_t garbled[177], zero[16], outputs[2];
 };
 
+/* Garbles and evaluates in pieces, on a circuit that other threads use. */
+static void stream(const struct shared *shared, const uint8_t seed[32]) {
+    uint8_t zeros[48], ones[48], rows[32], outputs[32], labels[2][32];
+    size_t written, taken;
+    halfgates_garbler *garbler = NULL;
+    halfgates_evaluator *evaluator = NULL;
+    CHECK_CODE(HALFGATES_OK, halfgates_garbler_begin(shared->circuit, seed, &garbler));
+    for (uint32_t i = 0; i < 3; i++)
+        CHECK_CODE(HALFGATES_OK, halfgates_garbler_input_labels(garbler, i, zeros + 16 * i, ones + 16 * i, 16));
+    CHECK_CODE(HALFGATES_OK, halfgates_evaluator_begin(shared->circuit, 0, ones, sizeof ones, &evaluator));
+    CHECK_CODE(HALFGATES_OK, halfgates_garbler_next(garbler, rows, sizeof rows, &written));
+    CHECK(written == 32 && memcmp(rows, shared->garbled + 48, 32) == 0);
+    CHECK_CODE(HALFGATES_OK, halfgates_evaluator_feed(evaluator, rows, sizeof rows, &taken));
+    CHECK_CODE(HALFGATES_OK, halfgates_garbler_output_labels(garbler, 0, labels[0], labels[1], 32));
+    CHECK_CODE(HALFGATES_OK, halfgates_evaluator_output_labels(evaluator, outputs, sizeof outputs));
+    CHECK(taken == 32 && memcmp(outputs, labels[1], 32) == 0);
+    halfgates_garbler_free(garbler);
+    halfgates_evaluator_free(evaluator);
+}
+
 static void order_once(const halfgates_circuit *circuit) {
     halfgates_circuit *ordered = NULL;
     uint8_t text[100];
@@ -73,7 +94,7 @@ static void order_once(const halfgates_circuit *circuit) {
 
 static void *read_all(void *at) {
     const struct shared *shared = at;
-    const uint8_t bits[3] = {1, 0, 1};
+    const uint8_t bits[3] = {1, 0, 1}, seed[32] = {0};
     uint8_t garbled[177], files[3 * 177], zero[16], outputs[2], many[6];
     halfgates_numbers numbers;
     size_t written;
@@ -81,6 +102,7 @@ static void *read_all(void *at) {
         CHECK_CODE(HALFGATES_OK, halfgates_circuit_numbers(shared->circuit, &numbers));
         CHECK(numbers.gates == 5 && numbers.wires == 8);
         order_once(shared->circuit);
+        stream(shared, seed);
         garble_once(shared->circuit, 0, garbled);
         CHECK(memcmp(garbled, shared->garbled, sizeof garbled) == 0);
         CHECK_CODE(HALFGATES_OK, halfgates_garbling_write(shared->garbling, 2, garbled, sizeof garbled, &written));
@@ -135,12 +157,24 @@ static void *free_garbling(void *garbling) {
     return NULL;
 }
 
+/* Goes on with what another thread began, and frees it. */
+static void *end_garbler(void *garbler) {
+    uint8_t rows[32], bits[2];
+    size_t written;
+    CHECK_CODE(HALFGATES_OK, halfgates_garbler_next(garbler, rows, sizeof rows, &written));
+    CHECK_CODE(HALFGATES_OK, halfgates_garbler_decode_bits(garbler, bits, sizeof bits));
+    CHECK(written == 32);
+    halfgates_garbler_free(garbler);
+    return NULL;
+}
+
 int main(void) {
     pthread_t threads[THREADS], other;
     struct task tasks[THREADS];
     const uint8_t seed[32] = {0};
     halfgates_circuit *circuit = read_text(FULL_ADDER);
     halfgates_garbling *garbling = NULL;
+    halfgates_garbler *garbler = NULL;
     for (uint8_t i = 0; i < THREADS; i++) {
         tasks[i].number = i;
         tasks[i].circuit = NULL;
@@ -160,6 +194,9 @@ int main(void) {
     share_handles(circuit);
     CHECK_CODE(HALFGATES_OK, halfgates_garble(circuit, seed, &garbling));
     CHECK(pthread_create(&other, NULL, free_garbling, garbling) == 0);
+    CHECK(pthread_join(other, NULL) == 0);
+    CHECK_CODE(HALFGATES_OK, halfgates_garbler_begin(circuit, seed, &garbler));
+    CHECK(pthread_create(&other, NULL, end_garbler, garbler) == 0);
     CHECK(pthread_join(other, NULL) == 0);
     halfgates_circuit_free(circuit);
     return 0;

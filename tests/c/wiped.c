@@ -62,6 +62,8 @@ static void work(const char *path) {
     halfgates_circuit *circuit = NULL;
     halfgates_garbling *garbling = NULL;
     halfgates_job *job = NULL;
+    halfgates_garbler *garblers[2] = {NULL, NULL};
+    halfgates_evaluator *evaluator = NULL;
     halfgates_numbers numbers;
     static char text[1 << 21];
     FILE *source = fopen(path, "rb");
@@ -82,6 +84,17 @@ static void work(const char *path) {
     CHECK_CODE(HALFGATES_OK, halfgates_job_bind(circuit, file, size, labels, at, sizes, 2, &job));
     CHECK_CODE(HALFGATES_OK, halfgates_evaluate(job, outputs, numbers.output_wires));
     CHECK_CODE(HALFGATES_OK, halfgates_plain(circuit, bits, numbers.input_wires, outputs, numbers.output_wires));
+    /* A garbler and an evaluator that are freed before their end, and a garbler that comes to its end. */
+    for (int i = 0; i < 2; i++) {
+        CHECK_CODE(HALFGATES_OK, halfgates_garbler_begin(circuit, seed, &garblers[i]));
+        CHECK_CODE(HALFGATES_OK, halfgates_garbler_next(garblers[i], file, i ? sizeof file : 3200, &size));
+    }
+    CHECK_CODE(HALFGATES_OK,
+               halfgates_evaluator_begin(circuit, 0, labels, 16 * (size_t)numbers.input_wires, &evaluator));
+    CHECK_CODE(HALFGATES_OK, halfgates_evaluator_feed(evaluator, file, 3200, &size));
+    halfgates_garbler_free(garblers[0]);
+    halfgates_garbler_free(garblers[1]);
+    halfgates_evaluator_free(evaluator);
     halfgates_garbling_free(garbling);
     halfgates_job_free(job);
     halfgates_circuit_free(circuit);

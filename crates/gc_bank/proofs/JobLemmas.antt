@@ -1,68 +1,63 @@
--- Jobs of a list, one after another.
-use Rattle.gc_bank.proofs.Names.{◌≡◌, ℕ, zero, suc, ◌+◌, ◌⊎◌, inl, ⊎_elim, Bool, List, [], ◌∷◌, ◌++◌, length, slice_get, get_or, Option, Some, None, IfSome, Ok, Err, arith, slice_get-get_or, Netlist, JobParts, IsEvaluated, AreBitsOf}
-use Rattle.std.proofs.lemmas.List.{length-append}
+-- Jobs of a list.
+use Rattle.gc_bank.proofs.Names.{◌≡◌, ℕ, zero, suc, ◌+◌, ◌<◌, ◌∙◌, List, [], ◌∷◌, Bool, Vec, Option, Some, map, take, slice_get, refl, sym, ap, Ok, Err, arith, Netlist, JobParts, AreBitsOf, AreKnown}
+use Rattle.std.proofs.Common.{drop, length, Result}
+use Rattle.std.proofs.lemmas.List.{map-id}
+use Rattle.gc_job.proofs.JobsLemmas.{if_some}
+use Rattle.gc_job.proofs.TakeLemmas.{slice_get-take, slice_get_taken}
 use Rattle.gc_job.specs.declared.fault.EvalFault.{EvalFault}
 use Rattle.gc_job.specs.declared.fault.EvalFault.TheVariants.{BadWorkers, UnknownOutputLabel, Memory}
-use Rattle.gc_bank.specs.Jobs.{AreOn, EvaluateTo}
+use Rattle.gc_job.specs.Jobs.{EvaluateTo}
+use Rattle.gc_workers.specs.Workers.{AreFew}
+use Rattle.gc_bank.specs.Jobs.{AreOn, AreOnOneCircuit, AreEvaluatedBy}
+use Rattle.gc_bank.specs.Workers.{AreKnownFrom}
 
 -- one job more on the circuit
 pub on_more : (c : Netlist) (jobs : List JobParts) (n : ℕ) (job : JobParts)
     → slice_get jobs n ≡ Some job → job.circuit ≡ c → AreOn c jobs n → AreOn c jobs (n + 1)
 on_more c jobs n job at on before k other below is = grind (arith, before k other)
 
--- The outputs are those of the first n jobs.
-pub record AreEvaluatedBefore (jobs : List JobParts) (outputs : List (List Bool)) (n : ℕ)
-    : Type 0 where
-  pub count : length outputs ≡ n
-  pub each : (k : ℕ) (job : JobParts) (bits : List Bool) → slice_get jobs k ≡ Some job
-      → slice_get outputs k ≡ Some bits
-      → IsEvaluated job (Ok bits)
+slice_get-drop : {X : Type 0} (n k : ℕ) (xs : List X) → slice_get (drop n xs) k ≡ slice_get xs (n + k)
+slice_get-drop zero k xs =
+    let same : k ≡ 0 + k = omega arith in ap (λ i. slice_get xs i) same
+slice_get-drop (suc n) k [] = refl
+slice_get-drop (suc n) k (x ∷ xs) =
+    let next : suc (n + k) ≡ suc n + k = omega arith in
+    slice_get-drop n k xs ∙ ap (λ i. slice_get (x ∷ xs) i) next
 
--- an element of a list that one was pushed to
-pushed : {X : Type 0} (xs : List X) (x y : X) (k : ℕ) → slice_get (xs ++ x ∷ []) k ≡ Some y
-    → (slice_get xs k ≡ Some y) ⊎ ((k ≡ length xs) × (x ≡ y))
-pushed [] x y zero h = grind arith
-pushed [] x y (suc k) h = absurd (cc)
-pushed (a ∷ xs) x y zero h = inl h
-pushed (a ∷ xs) x y (suc k) h = grind (arith, pushed xs x y k h)
+-- The jobs of a part of the list are on one circuit too,
+module _ (jobs : List JobParts) (start n : ℕ) where
+  abbrev part : List JobParts
+  part = map (λ job. job) (take n (drop start jobs))
 
--- one job more
-pub evaluated_more : (jobs : List JobParts) (outputs : List (List Bool)) (n : ℕ) (job : JobParts)
-    (bits : List Bool)
-    → slice_get jobs n ≡ Some job → IsEvaluated job (Ok bits) → AreEvaluatedBefore jobs outputs n
-    → AreEvaluatedBefore jobs (outputs ++ bits ∷ []) (n + 1)
-evaluated_more jobs outputs n job bits at is before = record {
-  count = omega (arith, length-append outputs (bits ∷ []), before.count);
-  each = λ k other found other_at found_at. ⊎_elim (before.each k other found other_at)
-      (λ last. let same : job ≡ other = cc in rw (← same, ← last.1) is)
-      (pushed outputs bits found k found_at);
-}
+  at_part : (k : ℕ) (job : JobParts) → slice_get part k ≡ Some job
+      → (k < n) × (slice_get jobs (start + k) ≡ Some job)
+  at_part k job at =
+      let taken = slice_get_taken n k (drop start jobs) job
+      (rw (map-id (take n (drop start jobs))) at at) in
+      (taken.0, sym (slice_get-drop start k jobs) ∙ taken.1)
 
--- The fault of a job's evaluation is that of the list.
-pub job_fault : (jobs : List JobParts) (outputs : List (List Bool)) (n : ℕ) (job : JobParts)
-    (fault : EvalFault)
-    → slice_get jobs n ≡ Some job → IsEvaluated job (Err fault) → AreEvaluatedBefore jobs outputs n
-    → EvaluateTo jobs (Err fault)
-job_fault jobs outputs n job (UnknownOutputLabel output) at is before = record {
-  place = n;
-  job = job;
-  at = at;
-  unknown = is;
-  before = λ k other below other_at. (
-    get_or outputs k [],
-    before.each k other _ other_at (slice_get-get_or outputs k [] (omega (arith, before.count))),
-  );
-}
-job_fault jobs outputs n job Memory at is before = tt
-job_fault jobs outputs n job BadWorkers at is before = absurd is.decoding
+  pub part_one : AreOnOneCircuit jobs → AreOnOneCircuit part
+  part_one one i k a b a_at b_at =
+      one (start + i) (start + k) a b (at_part i a a_at).1 (at_part k b b_at).1
 
--- What holds of a result holds of what follows from it.
-pub if_some : {X : Type 0} (P Q : X → Type 0) (o : Option X) → ((x : X) → P x → Q x) → IfSome o P
-    → IfSome o Q
-if_some P Q None follows is = tt
-if_some P Q (Some x) follows is = follows x is
+  -- and what is known of its jobs is known of them in the list.
+  module _ {B : Type 0} (share : List (Option (Vec Bool B))) where
+    pub part_known : AreKnownFrom jobs start share → AreKnown part share
+    part_known known k d below =
+        if_some _ (λ (v : Vec Bool B). AreBitsOf part k v.items) _
+        (λ v is job at. is job (at_part k job at).1) (known k d below)
 
--- The bits of the job at a place.
-pub bits_at : (jobs : List JobParts) (k : ℕ) (job : JobParts) (bits : List Bool)
-    → slice_get jobs k ≡ Some job → IsEvaluated job (Ok bits) → AreBitsOf jobs k bits
-bits_at jobs k job bits at is other other_at = let same : job ≡ other = cc in rw (← same) is
+    pub known_from_part : length share ≡ n → AreKnown part share → AreKnownFrom jobs start share
+    known_from_part count known k d below =
+        if_some _ (λ (v : Vec Bool B). AreBitsOf jobs (start + k) v.items) _
+        (λ v is job at. is job (rw (map-id (take n (drop start jobs)))
+        (slice_get-take n k (drop start jobs) (omega (arith, count, below))
+        ∙ slice_get-drop start k jobs ∙ at))) (known k d below)
+
+-- A few workers evaluate jobs to what these are evaluated to.
+pub by_few : (workers : ℕ) (jobs : List JobParts) (result : Result (List (List Bool)) EvalFault)
+    → AreFew workers → EvaluateTo jobs result → AreEvaluatedBy workers jobs result
+by_few workers jobs (Ok outputs) few is = (few, is)
+by_few workers jobs (Err (UnknownOutputLabel output)) few is = (few, is)
+by_few workers jobs (Err Memory) few is = (few, is)
+by_few workers jobs (Err BadWorkers) few is = absurd is

@@ -4,7 +4,7 @@ pub use Rattle.std.proofs.lemmas.Option.{slice_get-get_or, slice_get_read, slice
 pub use Rattle.gc_bank.specs.Rounds.{gates_of, IsRound}
 pub use Rattle.gc_bank.specs.Seats.{InRound, round_in, IsNew, view, jobs_on, IsSeatOf}
 pub use Rattle.gc_bank.specs.Views.{Seen, Answers, AnswersTwo, AnswersFour}
-pub use Rattle.gc_bank.specs.Workers.{AreBitsOf, AreKnown, IsWorkerOf, AreWorkersOf, IsKept, IsWorkerAt}
+pub use Rattle.gc_bank.specs.Workers.{IsWorkerOf, AreWorkersOf, IsKept, IsWorkerAt}
 pub use Rattle.gc_bank.specs.declared.seat.BankSeat.{BankSeat}
 pub use Rattle.gc_workers.proofs.Sums.{total-append}
 pub use Rattle.gc_workers.specs.Counts.{total}
@@ -12,6 +12,7 @@ pub use Rattle.gc_steps.proofs.GatherLemmas.{all_but_last, all_last, total_last,
 pub use Rattle.gc_job.specs.ActiveLabels.{active}
 pub use Rattle.gc_job.specs.Evaluate.{IsEvaluated}
 pub use Rattle.gc_job.specs.Job.{JobParts}
+pub use Rattle.gc_job.specs.Jobs.{AreBitsOf, AreKnown}
 pub use Rattle.gc_netlist.specs.Circuit.{Netlist}
 pub use Rattle.gc_gates.specs.Pairs.{pairs}
 pub use Rattle.gc_gates.specs.Layout.{two_banks}

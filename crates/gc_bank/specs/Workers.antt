@@ -1,11 +1,11 @@
 -- The workers of an evaluation of a list of jobs.
-use Rattle.std.specs.Prelude.{◌≡◌, ℕ, ◌+◌, ◌<◌, Bool, List, All, Option, Some, Vec, IfSome, Ok, length, slice_get, slice_index_or}
+use Rattle.std.specs.Prelude.{◌≡◌, ℕ, ◌+◌, ◌<◌, Bool, List, All, Option, Some, Vec, IfSome, length, slice_get, slice_index_or}
 use Rattle.gc_rounds.specs.declared.view.Position.{Position}
 use Rattle.gc_rounds.specs.declared.view.Position.TheVariants.{Outside}
 use Rattle.gc_netlist.specs.Solution.{on_outputs}
 use Rattle.gc_job.specs.Job.{JobParts}
 use Rattle.gc_job.specs.ActiveLabels.{active}
-use Rattle.gc_job.specs.Evaluate.{IsEvaluated}
+use Rattle.gc_job.specs.Jobs.{AreBitsOf}
 use Rattle.gc_bank.specs.Rounds.{gates_of}
 use Rattle.gc_bank.specs.Seats.{IsSeatOf, view, jobs_on}
 use Rattle.gc_bank.specs.declared.seat.Banks.{Banks}
@@ -16,10 +16,6 @@ use Rattle.gc_bank.specs.declared.worker.Worker.{Worker}
 abbrev pub AreLabelsOf : List JobParts → ℕ → List ℕ → Type 0
 AreLabelsOf jobs k labels =
     (job : JobParts) → slice_get jobs k ≡ Some job → labels ≡ on_outputs job.circuit (active job)
-
--- The bits are those of the job at this place.
-abbrev pub AreBitsOf : List JobParts → ℕ → List Bool → Type 0
-AreBitsOf jobs k bits = (job : JobParts) → slice_get jobs k ≡ Some job → IsEvaluated job (Ok bits)
 
 -- The output bits that a worker kept are those of their round's job.
 abbrev pub IsKept : {B : Type 0} → List JobParts → Outputs B → Type 0
@@ -47,9 +43,3 @@ abbrev pub AreKnownFrom : {B : Type 0} → List JobParts → ℕ → List (Optio
 AreKnownFrom jobs start slots =
     (k : ℕ) (d : Option (Vec Bool _)) → k < length slots
     → IfSome (slice_index_or slots k d) (λ bits. AreBitsOf jobs (start + k) bits.items)
-
--- They are those of the job at the same place.
-abbrev pub AreKnown : {B : Type 0} → List JobParts → List (Option (Vec Bool B)) → Type 0
-AreKnown jobs slots =
-    (k : ℕ) (d : Option (Vec Bool _)) → k < length slots
-    → IfSome (slice_index_or slots k d) (λ bits. AreBitsOf jobs k bits.items)

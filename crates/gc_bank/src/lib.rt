@@ -6,6 +6,7 @@
 
 mod apart;
 mod banks;
+mod crew;
 mod jobs;
 mod open;
 mod same_circuit;

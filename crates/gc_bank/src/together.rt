@@ -1,18 +1,20 @@
 //! Workers that evaluate a list of jobs together.
 
-ghost use Rattle.std.specs.Prelude.{◌≡◌, ◌<◌, ◌≤◌, length, IfOk, List};
+ghost use Rattle.std.specs.Prelude.{◌<◌, ◌≤◌, length, List};
 ghost use Rattle.gc_workers.specs.Workers.{AreFew};
 ghost use Rattle.gc_job.specs.Job.{JobParts};
 ghost use Rattle.gc_bank.specs.Jobs.{AreOnOneCircuit};
 ghost use Rattle.gc_bank.specs.Seats.{jobs_on};
-ghost use Rattle.gc_bank.specs.Workers.{AreBitsOf, AreKnown, IsWorkerOf, AreWorkersOf};
+ghost use Rattle.gc_job.specs.Jobs.{AreBitsOf, AreKnown};
+ghost use Rattle.gc_bank.specs.Workers.{IsWorkerOf, AreWorkersOf};
 
+use crate::crew::Crew;
 use crate::seat::Banks;
 use crate::worker::{Outputs, Worker, workers_of};
-use gc_job::Job;
+use gc_job::{Job, none_known};
 use gc_rounds::MAX_JOBS;
 use gc_workers::Gatehouse;
-use std::alloc::{AllocError, Allocator};
+use std::alloc::Allocator;
 use std::thread;
 use std::thread::Threads;
 
@@ -24,28 +26,23 @@ pub(crate) fn evaluate_together<
     C: Allocator + Send + Sync,
     H: Gatehouse + Sync,
     R: Threads + Sync,
->(
-    rt: &R,
-    alloc: B,
-    jobs: &[Job<'_, A, C>],
-    workers: u32,
-    observer: &H,
-) -> Vec<Option<Vec<bool, B>>, B>
+>(crew: &Crew<'_, B, H, R>, jobs: &[Job<'_, A, C>]) -> Vec<Option<Vec<bool, B>>, B>
     requires count { (0 < length jobs.now) × (length jobs.now ≤ MAX_JOBS) }
     requires one { AreOnOneCircuit jobs.now }
-    requires workers { AreFew workers }
+    requires workers { AreFew crew.now.workers }
     ensures { AreKnown jobs.now result.items }
 {
+    let alloc = crew.alloc;
     let Ok(slots) = none_known(alloc, jobs.len()) else {
         return Vec::new(alloc);
     };
-    let Ok((banks, seats)) = Banks::open(alloc, jobs, workers) else {
+    let Ok((banks, seats)) = Banks::open(alloc, jobs, crew.workers) else {
         return slots;
     };
     let Ok(mut workers) = workers_of(alloc, &banks, seats) else {
         return slots;
     };
-    work_together(rt, alloc, &banks, workers.as_mut_slice(), observer);
+    work_together(crew, &banks, workers.as_mut_slice());
     all_kept(&banks, slots, workers)
 }
 
@@ -57,35 +54,20 @@ fn work_together<
     C: Allocator + Send + Sync,
     H: Gatehouse + Sync,
     R: Threads + Sync,
->(rt: &R, alloc: B, banks: &Banks<'_, '_, B, A, C>, workers: &mut [Worker<B, A, C>], observer: &H)
+>(crew: &Crew<'_, B, H, R>, banks: &Banks<'_, '_, B, A, C>, workers: &mut [Worker<B, A, C>])
     requires { AreWorkersOf banks.now workers.old }
     ensures { AreWorkersOf banks.now workers.new }
 {
     let count = workers.len().max(1);
     thread::for_each_mut(
-        rt,
+        crew.rt,
         workers,
         count,
         &|_i: usize, worker: &mut Worker<B, A, C>|
             requires { IsWorkerOf banks.now worker.now }
             ensures { IsWorkerOf banks.entry.now worker.exit.now }
-        { worker.work(alloc, banks, observer) },
+        { worker.work(banks, crew.observer) },
     );
-}
-
-/// A place for the output bits of each job, for this number of jobs, with none yet.
-pub(crate) fn none_known<B: Allocator + Copy>(
-    alloc: B,
-    count: usize,
-) -> Result<Vec<Option<Vec<bool, B>>, B>, AllocError>
-    ensures { IfOk result (λ v. (length v.items ≡ count)
-        × ((jobs : List JobParts) → AreKnown jobs v.items)) }
-{
-    let mut slots = Vec::with_capacity(alloc, count)?;
-    for _i in 0..count {
-        slots.push(None)?;
-    }
-    Ok(slots)
 }
 
 /// What all workers kept, at the places of the jobs.

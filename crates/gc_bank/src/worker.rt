@@ -6,7 +6,8 @@ ghost use Rattle.gc_rounds.specs.declared.view.Position.TheVariants.{Outside, In
 ghost use Rattle.gc_steps.specs.Walks.{IsWithin, groups_left};
 ghost use Rattle.gc_bank.specs.Rounds.{gates_of};
 ghost use Rattle.gc_bank.specs.Seats.{IsSeatOf, IsNew, view, jobs_on};
-ghost use Rattle.gc_bank.specs.Workers.{AreBitsOf, AreLabelsOf, IsWorkerAt, IsWorkerOf, AreWorkersOf};
+ghost use Rattle.gc_job.specs.Jobs.{AreBitsOf};
+ghost use Rattle.gc_bank.specs.Workers.{AreLabelsOf, IsWorkerAt, IsWorkerOf, AreWorkersOf};
 
 use crate::seat::{BankSeat, Banks};
 use gc_label::Label;
@@ -27,10 +28,12 @@ pub(crate) struct Outputs<B: Allocator> {
     pub(crate) bits: Vec<bool, B>,
 }
 
-/// What a worker has of its own: its number, its seat at the banks, the first gate of its share, with which each of its
-/// passes begins, its walk over the gates of a round, and the output bits that it keeps.
+/// What a worker has of its own: the memory that it allocates from, its number, its seat at the banks, the first gate
+/// of its share, with which each of its passes begins, its walk over the gates of a round, and the output bits that it
+/// keeps.
 #[derive(Drop)]
 pub(crate) struct Worker<B: Allocator, A: Allocator, C: Allocator> {
+    alloc: B,
     number: u32,
     seat: BankSeat<B, A, C>,
     first: u32,
@@ -108,20 +111,13 @@ fn await_bank<B: Allocator, A: Allocator, C: Allocator>(
 
 impl<B: Allocator, A: Allocator, C: Allocator> Worker<B, A, C> {
     /// Steps the gates of a group in the round, and notes what each was returned.
-    fn step<H: Gatehouse>(
-        &mut self,
-        banks: &Banks<'_, '_, B, A, C>,
-        observer: &H,
-        round: u32,
-        group: GateGroup,
-    )
+    fn step(&mut self, banks: &Banks<'_, '_, B, A, C>, round: u32, group: GateGroup)
         requires worker { IsWorkerAt banks.now (Inside round) self.old }
         requires round { round < length (jobs_on banks.now) }
         requires group { IsWithin (gates_of (jobs_on banks.now)) group }
         ensures worker { IsWorkerAt banks.now (Inside round) self.new }
         ensures left { groups_left self.new.walk ≡ groups_left self.old.walk }
     {
-        group.report_to(observer, self.number);
         banks.law_round(round);
         match group {
             GateGroup::One(a) => {
@@ -158,7 +154,8 @@ impl<B: Allocator, A: Allocator, C: Allocator> Worker<B, A, C> {
         let circuit = banks.job(round).circuit();
         self.walk.begin(self.first, circuit.gates());
         while let Some(group) = self.walk.next(circuit) {
-            self.step(banks, observer, round, group);
+            group.report_to(observer, self.number);
+            self.step(banks, round, group);
         }
         self.walk.has_learnt()
     }
@@ -169,7 +166,6 @@ impl<B: Allocator + Copy, A: Allocator, C: Allocator> Worker<B, A, C> {
     /// learnt of one, until each output wire has a label. These labels are the result.
     fn labels_of_round<H: Gatehouse>(
         &mut self,
-        alloc: B,
         banks: &Banks<'_, '_, B, A, C>,
         observer: &H,
         round: u32,
@@ -182,7 +178,7 @@ impl<B: Allocator + Copy, A: Allocator, C: Allocator> Worker<B, A, C> {
         self.walk.forget();
         for _pass in 0..=banks.job(round).circuit().gates() {
             let learnt = self.pass(banks, observer, round);
-            let found = output_labels(alloc, banks, &mut self.seat, round);
+            let found = output_labels(self.alloc, banks, &mut self.seat, round);
             if let Ok(Some(labels)) = found {
                 return Some(labels);
             }
@@ -195,29 +191,23 @@ impl<B: Allocator + Copy, A: Allocator, C: Allocator> Worker<B, A, C> {
 
     /// Goes through one round: it enters, works, and leaves. Where it saw the labels of all output wires, it seals
     /// the round and keeps the output bits.
-    fn serve<H: Gatehouse>(
-        &mut self,
-        alloc: B,
-        banks: &Banks<'_, '_, B, A, C>,
-        observer: &H,
-        round: u32,
-    )
+    fn serve<H: Gatehouse>(&mut self, banks: &Banks<'_, '_, B, A, C>, observer: &H, round: u32)
         requires worker { IsWorkerOf banks.now self.old }
         requires round { round < length (jobs_on banks.now) }
         ensures { IsWorkerOf banks.now self.new }
     {
         if let Entry::Inside = banks.enter(&mut self.seat, round) {
-            let seen = self.labels_of_round(alloc, banks, observer, round);
+            let seen = self.labels_of_round(banks, observer, round);
             banks.leave(&mut self.seat);
             if let Some(labels) = seen {
-                self.keep(alloc, banks, round, &labels);
+                self.keep(banks, round, &labels);
             }
         }
     }
 
     /// Seals the round and keeps the output bits of these labels, where no worker did so yet. The labels are decoded
     /// outside of the round, which no seat waits for.
-    fn keep(&mut self, alloc: B, banks: &Banks<'_, '_, B, A, C>, round: u32, labels: &[Label])
+    fn keep(&mut self, banks: &Banks<'_, '_, B, A, C>, round: u32, labels: &[Label])
         requires worker { IsWorkerOf banks.now self.old }
         requires round { round < length (jobs_on banks.now) }
         requires labels { AreLabelsOf (jobs_on banks.now) round labels.now }
@@ -226,7 +216,7 @@ impl<B: Allocator + Copy, A: Allocator, C: Allocator> Worker<B, A, C> {
         if let Entry::Inside = banks.enter(&mut self.seat, round) {
             banks.seal(&mut self.seat);
             banks.leave(&mut self.seat);
-            if let Some(bits) = bits_of_round(alloc, banks, round, labels) {
+            if let Some(bits) = bits_of_round(self.alloc, banks, round, labels) {
                 // One thread evaluates a job whose bits can't be kept.
                 let _ = self.kept.push(Outputs { round, bits });
             }
@@ -234,12 +224,7 @@ impl<B: Allocator + Copy, A: Allocator, C: Allocator> Worker<B, A, C> {
     }
 
     /// Goes through all rounds, in order.
-    pub(crate) fn work<H: Gatehouse>(
-        &mut self,
-        alloc: B,
-        banks: &Banks<'_, '_, B, A, C>,
-        observer: &H,
-    )
+    pub(crate) fn work<H: Gatehouse>(&mut self, banks: &Banks<'_, '_, B, A, C>, observer: &H)
         requires { IsWorkerOf banks.now self.old }
         ensures { IsWorkerOf banks.now self.new }
     {
@@ -247,7 +232,7 @@ impl<B: Allocator + Copy, A: Allocator, C: Allocator> Worker<B, A, C> {
             if round >= 2 && !await_bank(banks, &mut self.seat, round - 2) {
                 return;
             }
-            self.serve(alloc, banks, observer, round);
+            self.serve(banks, observer, round);
         }
     }
 }
@@ -265,6 +250,7 @@ fn worker_of<B: Allocator + Copy, A: Allocator, C: Allocator>(
     let gates = banks.job(0).circuit().gates();
     let share = gates / banks.seats;
     Ok(Worker {
+        alloc,
         number,
         seat,
         first: share.saturating_mul(number),

@@ -5,7 +5,7 @@ use gc_bank::{evaluate_jobs, one_circuit};
 use gc_circuit::Circuit;
 use gc_file::{LabelFile, MemSink, read_garbled, read_labels, write_labels};
 use gc_half::Four;
-use gc_job::{Job, evaluate, evaluate_four};
+use gc_job::{AsJob, Job, evaluate, evaluate_four};
 use gc_label::Seed;
 use gc_rounds::MAX_JOBS;
 use gc_workers::Open;
@@ -57,10 +57,10 @@ pub fn side_by_side(alloc: Global, job: &Job) -> Result<()> {
     let four = evaluate_four(
         alloc,
         Four {
-            a: job,
-            b: job,
-            c: job,
-            d: job,
+            a: job.as_job(),
+            b: job.as_job(),
+            c: job.as_job(),
+            d: job.as_job(),
         },
     );
     if four.d.is_none() {

@@ -1,7 +1,7 @@
 -- Where reading gates stops.
 use Rattle.std.specs.Prelude.{◌≡◌, ℕ, ◌+◌, ◌<◌, ◌≤◌, ◌⊎◌, Bool, true, false, List, [], length, slice_index_or, Option, Some, None, Ok, Err}
 use Rattle.gc_netlist.specs.declared.fault.ReadFault.{ReadFault}
-use Rattle.gc_netlist.specs.declared.fault.ReadFault.TheVariants.{OutputUnset}
+use Rattle.gc_netlist.specs.declared.fault.ReadFault.TheVariants.{OutputUnset, Memory}
 use Rattle.gc_netlist.specs.declared.gate.Gate.{Gate}
 use Rattle.gc_netlist.specs.Reading.{gate_at, check_gate, is_set, gates_at}
 use Rattle.gc_netlist.specs.Met.{gate_left, back_of, wire_at_fault}
@@ -36,3 +36,7 @@ pub record IsUnset (set : List Bool) (outputs : ℕ) (e : ReadFault) (back : ℕ
   pub within : first < length set
   pub free : slice_index_or set first false ≡ false
   pub lower : (v : ℕ) → length set ≤ v + outputs → v < first → slice_index_or set v false ≡ true
+
+-- An allocation was refused. This fault is about no gate and no wire.
+abbrev pub IsRefused : ReadFault → (gate wire : Option ℕ) → Type 0
+IsRefused e gate wire = (e ≡ Memory) × (gate ≡ None) × (wire ≡ None)

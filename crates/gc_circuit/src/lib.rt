@@ -3,6 +3,7 @@
 //! What a circuit is and what a text spells is defined in `gc_netlist`. Texts of values are read here too.
 #![tactic(auto)]
 
+mod arrays;
 mod canon;
 mod canonical_lines;
 mod checks;
@@ -17,6 +18,7 @@ mod stop;
 mod text_sink;
 mod value;
 
+pub use arrays::{Arrays, ArraysFault, GateNumbers};
 pub use circuit::Circuit;
 pub use eval::{fits, law_assignments, plain_eval, wire_bits};
 pub use gc_netlist::{Gate, Operation, ReadFault};

@@ -1,16 +1,16 @@
-ghost use Rattle.std.specs.Prelude.{◌≡◌, ◌≢◌, ℕ, ◌<◌, ◌≤◌, ◌-◌, ◌^◌, [], length, map, sum, drop, count_by, slice_index_or, false, true, if◌then◌else◌, IfOk, IfErr, IsFalse, MatchResult, Some, None, Ok, Err, vec_len};
+ghost use Rattle.std.specs.Prelude.{◌≡◌, ◌≢◌, ℕ, ◌<◌, ◌≤◌, ◌-◌, ◌^◌, [], length, map, sum, drop, count_by, slice_index_or, false, true, if◌then◌else◌, IfOk, IfErr, OnOk, IsFalse, MatchResult, Some, None, Ok, Err, vec_len};
 ghost use Rattle.std.specs.List.{range_with_len, list_all};
 ghost use Rattle.gc_netlist.specs.Circuit.{Netlist, IsLawful, is_and};
 ghost use Rattle.gc_netlist.specs.Text.{tokens};
 ghost use Rattle.gc_netlist.specs.Spelling.{SpellWords, Spells, words_of_circuit};
 ghost use Rattle.gc_netlist.specs.FirstFault.{FirstFault};
 ghost use Rattle.gc_netlist.specs.Reading.{numbers_at, widths_at, gate_at, check_gate, gates_at, circuit_of, is_set};
-ghost use Rattle.gc_netlist.specs.Met.{numbers_left, widths_left, IsMet};
+ghost use Rattle.gc_netlist.specs.Met.{numbers_left, widths_left, wire_at_fault, IsMet};
 ghost use Rattle.gc_circuit.specs.Stop.{GateStops, GatesStop, IsUnset};
 
 use crate::checks::{check_gate, wire_at_fault};
 use crate::circuit::Circuit;
-use crate::stop::{Stop, back_of};
+use crate::stop::Stop;
 use gc_netlist::{Gate, MAX_GATES, MAX_VALUES, MAX_WIRES, ReadFault};
 use gc_tokens::{Tokens, read_gate};
 use std::alloc::Allocator;
@@ -27,10 +27,10 @@ pub(crate) struct Widths<A: Allocator> {
 
 /// The gates of a circuit, how many of them are AND gates, and a table of the wires that are set.
 #[derive(Drop)]
-struct Gates<A: Allocator> {
-    gates: Vec<Gate, A>,
-    and_count: u32,
-    is_set: Vec<bool, A>,
+pub(crate) struct Gates<A: Allocator> {
+    pub(crate) gates: Vec<Gate, A>,
+    pub(crate) and_count: u32,
+    pub(crate) is_set: Vec<bool, A>,
 }
 
 /// The next numbers, a given number of them.
@@ -56,7 +56,7 @@ fn read_numbers<A: Allocator>(
 }
 
 /// The sum of the widths, of which there are not too many.
-fn sum_of(widths: &[u32]) -> u64
+pub(crate) fn sum_of(widths: &[u32]) -> u64
     requires { length widths.now ≤ MAX_VALUES }
     ensures { result ≡ sum widths.now }
 {
@@ -93,7 +93,11 @@ fn read_widths<A: Allocator>(
 }
 
 /// The table of the wires that are set before any gate: the input wires.
-fn inputs_set<A: Allocator>(alloc: A, wires: u32, inputs: u32) -> Result<Vec<bool, A>, ReadFault>
+pub(crate) fn inputs_set<A: Allocator>(
+    alloc: A,
+    wires: u32,
+    inputs: u32,
+) -> Result<Vec<bool, A>, ReadFault>
     requires { inputs ≤ wires }
     ensures { MatchResult result (λ v. v.items ≡ map (is_set inputs []) (range_with_len 0 wires))
         (λ e. e ≡ ReadFault.Memory) }
@@ -102,6 +106,33 @@ fn inputs_set<A: Allocator>(alloc: A, wires: u32, inputs: u32) -> Result<Vec<boo
     is_set.resize(inputs as usize, true)?;
     is_set.resize(wires as usize, false)?;
     Ok(is_set)
+}
+
+/// Checks a gate against those before it, of which there are `number`.
+#[inline(always)]
+pub(crate) fn check_next(gate: Gate, is_set: &[bool], number: u32) -> Result<(), Stop>
+    ensures passes { OnOk result
+        (check_gate (length is_set.now) (λ w. slice_index_or is_set.now w false) gate ≡ Ok tt) }
+    ensures refused { IfErr result (λ s.
+        check_gate (length is_set.now) (λ w. slice_index_or is_set.now w false) gate
+        ≡ Err s.fault) }
+    ensures at_wire { IfErr result (λ s. let at = wire_at_fault (length is_set.now)
+        (λ w. slice_index_or is_set.now w false) gate.set gate.operation in
+        (s.back ≡ at.1) × (s.wire ≡ Some at.0)) }
+    ensures in_gate { IfErr result (λ s. s.gate ≡ Some number) }
+{
+    match check_gate(is_set, gate) {
+        Ok(()) => Ok(()),
+        Err(fault) => {
+            let at = wire_at_fault(is_set, gate);
+            Err(Stop {
+                fault,
+                back: at.back,
+                gate: Some(number),
+                wire: Some(at.wire),
+            })
+        }
+    }
 }
 
 /// The next gate, checked against those before it, of which there are `number`.
@@ -118,27 +149,10 @@ fn next_gate(tokens: &mut Tokens<'_>, is_set: &[bool], number: u32) -> Result<Ga
 {
     let gate = match read_gate(tokens) {
         Ok(gate) => gate,
-        Err(fault) => {
-            return Err(Stop {
-                fault,
-                back: back_of(fault),
-                gate: Some(number),
-                wire: None,
-            });
-        }
+        Err(fault) => return Err(Stop::in_gate(fault, number)),
     };
-    match check_gate(is_set, gate) {
-        Ok(()) => Ok(gate),
-        Err(fault) => {
-            let at = wire_at_fault(is_set, gate);
-            Err(Stop {
-                fault,
-                back: at.back,
-                gate: Some(number),
-                wire: Some(at.wire),
-            })
-        }
-    }
+    check_next(gate, is_set, number)?;
+    Ok(gate)
 }
 
 /// The next gates, a given number of them, each checked against those before it. Room for some is taken at once.
@@ -203,7 +217,7 @@ fn first_unset(is_set: &[bool]) -> usize
 }
 
 /// Each output wire is set. They are the last wires.
-fn check_outputs(is_set: &[bool], outputs: u32) -> Result<(), Stop>
+pub(crate) fn check_outputs(is_set: &[bool], outputs: u32) -> Result<(), Stop>
     requires fits { outputs ≤ length is_set.now }
     requires small { length is_set.now < 2 ^ 32 }
     ensures read { MatchResult result

@@ -1,4 +1,4 @@
-ghost use Rattle.std.specs.Prelude.{◌≡◌};
+ghost use Rattle.std.specs.Prelude.{◌≡◌, Some, None};
 ghost use Rattle.gc_netlist.specs.Met.{back_of};
 
 use gc_netlist::ReadFault;
@@ -28,6 +28,22 @@ pub(crate) fn back_of(fault: ReadFault) -> usize
     }
 }
 
+impl Stop {
+    /// A fault that is found in this gate and is about no wire.
+    #[cold]
+    pub(crate) fn in_gate(fault: ReadFault, gate: u32) -> Stop
+        ensures { (result.fault ≡ fault) × (result.back ≡ back_of fault)
+            × (result.gate ≡ Some gate) × (result.wire ≡ None) }
+    {
+        Stop {
+            fault,
+            back: back_of(fault),
+            gate: Some(gate),
+            wire: None,
+        }
+    }
+}
+
 /// A fault that is found in no gate.
 impl From<ReadFault> for Stop {
     ghost use Rattle.std.specs.Prelude.{◌≡◌, None};
@@ -48,10 +64,9 @@ impl From<ReadFault> for Stop {
 }
 
 impl From<AllocError> for Stop {
-    ghost use Rattle.std.specs.Prelude.{◌≡◌};
-    ghost use Rattle.gc_netlist.specs.declared.fault.ReadFault.TheVariants as faults;
+    ghost use Rattle.gc_circuit.specs.Stop.{IsRefused};
 
-    ghost from_gives = { λ _ s. s.fault ≡ faults.Memory };
+    ghost from_gives = { λ _ s. IsRefused s.fault s.gate s.wire };
 
     fn from(_e: AllocError) -> Stop {
         Stop::from(ReadFault::Memory)
@@ -59,10 +74,9 @@ impl From<AllocError> for Stop {
 }
 
 impl<T: Drop> From<AllocFailed<T>> for Stop {
-    ghost use Rattle.std.specs.Prelude.{◌≡◌};
-    ghost use Rattle.gc_netlist.specs.declared.fault.ReadFault.TheVariants as faults;
+    ghost use Rattle.gc_circuit.specs.Stop.{IsRefused};
 
-    ghost from_gives = { λ _ s. s.fault ≡ faults.Memory };
+    ghost from_gives = { λ _ s. IsRefused s.fault s.gate s.wire };
 
     fn from(_e: AllocFailed<T>) -> Stop {
         Stop::from(ReadFault::Memory)

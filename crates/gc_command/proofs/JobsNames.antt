@@ -7,7 +7,8 @@ pub use Rattle.std.proofs.lemmas.List.{drop_all, length-drop, length-map, map-ap
 pub use Rattle.std.proofs.lemmas.Option.{slice_get-get_or, slice_get_within, slice_get_cases, slice_get-map}
 pub use Rattle.std.proofs.lemmas.Result.{IfOk-weaker, err_from_is_err_and, IfErr-weaker}
 pub use Rattle.std.specs.List.{slice_split, position_or_len}
-pub use Rattle.gc_bank.specs.Jobs.{AreEvaluated, AreOnOneCircuit, AreEvaluatedBy}
+pub use Rattle.gc_job.specs.Jobs.{AreEvaluated}
+pub use Rattle.gc_bank.specs.Jobs.{AreOnOneCircuit, AreEvaluatedBy}
 pub use Rattle.gc_command.specs.declared.fault.Fault.{Fault}
 pub use Rattle.gc_disk.specs.Files.{FileBytes, GivesFile, HasFailed, FailedFiles}
 pub use Rattle.gc_job.specs.Job.{JobParts}

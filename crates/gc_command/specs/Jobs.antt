@@ -8,7 +8,8 @@ use Rattle.gc_workers.specs.Workers.{AreFew}
 use Rattle.gc_job.specs.declared.fault.BindFault.TheVariants as bind
 use Rattle.gc_job.specs.Job.{JobParts}
 use Rattle.gc_job.specs.Binding.{FirstBindFault, IsBound}
-use Rattle.gc_bank.specs.Jobs.{AreEvaluated, AreEvaluatedBy}
+use Rattle.gc_job.specs.Jobs.{AreEvaluated}
+use Rattle.gc_bank.specs.Jobs.{AreEvaluatedBy}
 use Rattle.gc_disk.specs.Files.{FileBytes, GivesFile}
 use Rattle.gc_command.specs.declared.fault.Fault.{Fault}
 use Rattle.gc_command.specs.declared.fault.Fault.TheVariants.{Circuit, File, Binding, Evaluation, BadList, CannotRead, Memory}

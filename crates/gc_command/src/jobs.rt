@@ -2,7 +2,8 @@
 
 ghost use Rattle.std.specs.Prelude.{◌≡◌, ◌<◌, ◌≤◌, ℕ, List, All, length, map, sum, IfOk, IfErr, Err, string_bytes};
 ghost use Rattle.gc_workers.specs.Workers.{AreFew};
-ghost use Rattle.gc_bank.specs.Jobs.{AreEvaluated, AreEvaluatedBy, AreOnOneCircuit};
+ghost use Rattle.gc_job.specs.Jobs.{AreEvaluated};
+ghost use Rattle.gc_bank.specs.Jobs.{AreEvaluatedBy, AreOnOneCircuit};
 ghost use Rattle.gc_rounds.specs.declared.words.TheConstants.{MAX_JOBS};
 ghost use Rattle.gc_disk.specs.Files.{HasFailed};
 ghost use Rattle.gc_command.specs.Lines.{form_by_flag};

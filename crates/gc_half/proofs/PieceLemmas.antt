@@ -1,5 +1,5 @@
 -- Garbling and evaluating the gates of a piece: its AND gates are numbered after those before it.
-use Rattle.gc_half.proofs.Names.{◌≡◌, ℕ, zero, suc, ◌+◌, ◌-◌, ◌*◌, ◌<◌, ◌≤◌, ◌++◌, ◌==◌, if◌then◌else◌, inl, inr, true, false, Bool, List, cond, length, map, set, slice_get, slice_index, Option, Some, refl, sym, ap, ◌∙◌, arith, add-one, take_all, slice_get_cases, Operation, And, Gate, Netlist, IsLawful, is_and, and_number, and_count, IsSetBefore-more, RowPair, zero_of, gate_rows, gate_zero, with_row_pair, first_read, second_read}
+use Rattle.gc_half.proofs.Names.{◌≡◌, ℕ, zero, suc, ◌+◌, ◌-◌, ◌*◌, ◌<◌, ◌≤◌, ◌++◌, ◌==◌, if◌then◌else◌, inl, inr, true, false, Bool, List, cond, length, map, set, slice_get, slice_index, Option, Some, refl, sym, ap, ◌∙◌, arith, add-one, take_all, slice_get_cases, slice_get_within, Operation, And, Gate, Netlist, IsLawful, is_and, and_number, and_count, IsSetBefore-more, RowPair, zero_of, gate_rows, gate_zero, with_row_pair, first_read, second_read}
 use Rattle.std.specs.List.{range_with_len}
 use Rattle.std.specs.Prelude.{None}
 use Rattle.std.proofs.Common.{length-append, length-set}
@@ -12,8 +12,8 @@ use Rattle.gc_half.specs.Evaluation.{active_of, active_rule, row_at}
 use Rattle.gc_half.specs.FirstGates.{AreGarbled}
 use Rattle.gc_half.specs.Hash.{hash, numbered_from}
 use Rattle.gc_half.specs.Waiting.{ZeroTableParts, NoneSets}
-use Rattle.gc_half.specs.Pieces.{IsPieceAfter}
-use Rattle.gc_half.proofs.AndNumbers.{and_number-and, and_number-other}
+use Rattle.gc_half.specs.Pieces.{IsPieceAfter, EndsPiece}
+use Rattle.gc_half.proofs.AndNumbers.{and_number-and, and_number-below, and_number-end, and_number-other}
 use Rattle.gc_half.proofs.GarbleLemmas.{garbled-next, count_rows, set-put}
 
 module _ (c : Netlist) where
@@ -31,6 +31,31 @@ module _ (c : Netlist) where
   pub and_number-next : (i : ℕ) (g : Gate) → slice_get c.gates i ≡ Some g
       → and_number c (i + 1) ≡ and_number c i + cond (is_and g.operation) 1 0
   and_number-next i g at = rw (add-one i) (next-by i g at (is_and g.operation) refl)
+
+  module _ (from count left i : ℕ)
+      (counted_is : left + and_number c i ≡ count + and_number c from) where
+    -- A piece ends before an AND gate for which none is left, or at the circuit's end.
+    pub ends-before : (g : Gate) → slice_get c.gates i ≡ Some g → is_and g.operation ≡ true
+        → left ≡ 0 → from ≤ i → EndsPiece c from count i
+    ends-before g at and none later =
+        let below = and_number-below c i g at and in
+        record {
+          later = later;
+          gates = omega (arith, slice_get_within c.gates i g at);
+          number = omega (arith, counted_is, none, below);
+          whole = λ all. absurd (omega (arith, all, below));
+        }
+
+    pub ends-last : i ≡ length c.gates → from ≤ length c.gates
+        → (to : ℕ) → to ≡ length c.gates → EndsPiece c from count to
+    ends-last last later to to_is =
+        let passed : and_number c i ≡ and_count c = ap (and_number c) last ∙ and_number-end c in
+        record {
+          later = omega (arith, later, to_is);
+          gates = omega (arith, to_is);
+          number = ap (and_number c) to_is ∙ omega (arith, and_number-end c, counted_is, passed);
+          whole = λ all. to_is;
+        }
 
   and_number-suc : (i : ℕ) → and_number c i ≤ and_number c (suc i)
   and_number-suc i = elim (slice_get_cases c.gates i).1 [

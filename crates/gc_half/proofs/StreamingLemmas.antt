@@ -10,8 +10,8 @@ use Rattle.gc_netlist.proofs.Tables.{read-table, length-table, IsSetBefore-below
 use Rattle.gc_half.specs.FirstGates.{AreGarbled, label_of}
 use Rattle.gc_half.specs.Hash.{hash, numbered_from}
 use Rattle.gc_half.specs.Evaluation.{active_rule}
-use Rattle.gc_half.specs.Waiting.{ZeroTableParts}
-use Rattle.gc_half.specs.Pieces.{IsPieceAfter, EndsPiece}
+use Rattle.gc_half.specs.Waiting.{ZeroTableParts, rows_made}
+use Rattle.gc_half.specs.Pieces.{IsPieceAfter, GarblesOn, EndsPiece}
 use Rattle.gc_half.specs.Streaming.{StreamingGarblerParts, IsGarbledSoFar, IsEvaluatedSoFar, input_labels}
 use Rattle.gc_half.proofs.AndNumbers.{and_number-le, and_number-end}
 use Rattle.gc_half.proofs.GarbleLemmas.{count_rows}
@@ -92,65 +92,73 @@ module _ (c : Netlist) (given : List ℕ) (rows : List RowPair) (g : StreamingGa
   pub garbler-number : g.first + g.made ≤ 2 ^ 62
   garbler-number = omega (arith, is.numbers, garbler-few)
 
-  -- No row pair of the next piece is made.
-  pub piece-begun : (number : ℕ) → number ≡ g.first + g.made
-      → IsPieceAfter g.offset g.first c given rows g.gates (record {
+  module _ {number : ℕ} {begun : ZeroTableParts}
+      (begins : begun ≡ record {
         offset = g.offset;
         first = number;
         labels = g.labels;
         made = 0;
         waiting = [];
-      }) []
-  piece-begun number numbered = record {
-    offset = refl;
-    numbered = numbered ∙ ap (λ n. g.first + n) is.made;
-    wires = is.wires;
-    counted = refl;
-    garbled = rw append-nil is.garbled;
-    waiting = λ w unset. tt;
-  }
+      })
+      (numbered : number ≡ g.first + g.made) (places : List RowPair)
+    where
+      -- No row pair of the next piece is made.
+      pub piece-begun : IsPieceAfter g.offset g.first c given rows g.gates begun
+          (rows_made begun places)
+      piece-begun = rw begins (record {
+        offset = refl;
+        numbered = numbered ∙ ap (λ n. g.first + n) is.made;
+        wires = is.wires;
+        counted = refl;
+        garbled = rw append-nil is.garbled;
+        waiting = λ w unset. tt;
+      })
 
-  module _ (t : ZeroTableParts) (piece : List RowPair) (to count : ℕ)
-      (after : IsPieceAfter g.offset g.first c given rows to t piece)
-      (ends : EndsPiece c g.gates count to) where
-    -- The piece has a row pair for each place, or for each AND gate that was left.
-    pub piece-length : length piece ≡ min count (and_count c - g.made)
-    piece-length =
-        omega (
-          arith,
-          ends.number,
-          garbler-count,
-          is.made,
-          piece-count g.offset g.first c given rows to t piece after,
-          and_number-few c g.gates,
-        )
+      module _ {t : ZeroTableParts} {piece : List RowPair} {to count : ℕ}
+          (garbles : GarblesOn c g.gates to begun (rows_made begun places) t piece)
+          (ends : EndsPiece c g.gates count to) where
+        after : IsPieceAfter g.offset g.first c given rows to t piece
+        after = garbles g.offset g.first given rows piece-begun
 
-    pub piece-whole : g.made + length piece ≡ and_count c → to ≡ length c.gates
-    piece-whole all =
-        ends.whole (omega (
-          arith,
-          all,
-          is.made,
-          piece-count g.offset g.first c given rows to t piece after,
-        ))
+        count-after : length rows + length piece ≡ and_number c to
+        count-after = piece-count g.offset g.first c given rows to t piece after
 
-    -- The garbler after the piece.
-    pub piece-made : (labels : List ℕ) (made : ℕ) → labels ≡ t.labels → made ≡ length piece
-        → IsGarbledSoFar c given (rows ++ piece) (record {
-          offset = g.offset;
-          first = g.first;
-          labels = labels;
-          gates = to;
-          made = g.made + made;
-        })
-    piece-made labels made labels_are made_is = record {
-      inputs = is.inputs;
-      numbers = is.numbers;
-      wires = ap length labels_are ∙ after.wires;
-      gates = ends.gates;
-      made = omega (arith, is.made, made_is, length-append rows piece);
-      garbled = rw labels_are after.garbled;
-    }
+        -- The piece has a row pair for each place, or for each AND gate that was left.
+        pub piece-made : t.made + length t.waiting ≡ min count (and_count c - g.made)
+        piece-made =
+            omega (
+              arith,
+              after.counted,
+              ends.number,
+              garbler-count,
+              is.made,
+              count-after,
+              and_number-few c g.gates,
+            )
+
+        pub piece-whole : (made : ℕ) → made ≡ t.made + length t.waiting
+            → g.made + made ≡ and_count c → to ≡ length c.gates
+        piece-whole made made_is all =
+            ends.whole (omega (arith, all, made_is, after.counted, is.made, count-after))
+
+        -- The garbler after the piece.
+        pub garbler-after : (new_labels : List ℕ) (made : ℕ) → new_labels ≡ t.labels
+            → made ≡ t.made + length t.waiting
+            → IsGarbledSoFar c given (rows ++ piece) (record {
+              offset = g.offset;
+              first = g.first;
+              labels = new_labels;
+              gates = to;
+              made = g.made + made;
+            })
+        garbler-after new_labels made labels_are made_is = record {
+          inputs = is.inputs;
+          numbers = is.numbers;
+          wires = ap length labels_are ∙ after.wires;
+          gates = ends.gates;
+          made = omega (arith, is.made, made_is, after.counted, length-append rows piece);
+          garbled = rw labels_are after.garbled;
+        }
 
 -- No gate is evaluated yet.
 pub evaluator-begun : (c : Netlist) (inputs labels : List ℕ) → length inputs ≡ input_wires c

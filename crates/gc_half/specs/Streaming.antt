@@ -1,5 +1,5 @@
 -- A circuit in pieces, in file order: its row pairs leave while it is garbled, and come while it is evaluated.
-use Rattle.std.specs.Prelude.{◌≡◌, ℕ, ◌<◌, ◌+◌, ◌^◌, ◌≤◌, ◌++◌, List, length, map, slice_index, take}
+use Rattle.std.specs.Prelude.{◌≡◌, ℕ, ◌<◌, ◌+◌, ◌^◌, ◌≤◌, ◌++◌, List, length, map, slice_get, slice_index, take}
 use Rattle.std.specs.List.{range_with_len}
 use Rattle.gc_netlist.specs.Circuit.{Netlist, IsLawful, IsSetBefore, and_count, and_number, input_wires}
 use Rattle.gc_netlist.specs.Solution.{values_after}
@@ -40,6 +40,10 @@ pub record IsGarblerOf (c : Netlist) (g : StreamingGarblerParts) : Type 0 where
   pub rows : List RowPair
   pub so_far : IsGarbledSoFar c given rows g
   pub whole : g.made ≡ and_count c → g.gates ≡ length c.gates
+
+-- The places from the n-th on have what they had.
+abbrev pub KeepsFrom : ℕ → List RowPair → List RowPair → Type 0
+KeepsFrom n old new = (i : ℕ) → n ≤ i → slice_get new i ≡ slice_get old i
 
 -- The garbler makes this piece next, whatever the zero labels of the input wires and the row pairs before are.
 abbrev pub GarblesPiece : Netlist → StreamingGarblerParts → List RowPair → StreamingGarblerParts

@@ -6,7 +6,7 @@ ghost use Rattle.gc_label.specs.Seed.{offset_of};
 ghost use Rattle.gc_half.specs.Garbling.{GarblingParts, IsGarbledFrom};
 ghost use Rattle.gc_half.specs.Joined.{output_zero_labels};
 ghost use Rattle.gc_half.specs.Pieces.{IsBegunGarbler, IsSomePiece, GarblesOn, EndsPiece};
-ghost use Rattle.gc_half.specs.Streaming.{IsGarbledSoFar, IsGarblerOf, GarblesPiece, input_labels};
+ghost use Rattle.gc_half.specs.Streaming.{IsGarbledSoFar, IsGarblerOf, GarblesPiece, KeepsFrom, input_labels};
 ghost use Rattle.gc_half.specs.Waiting.{rows_made};
 ghost use Rattle.gc_half.specs.declared.garbling.RowPair.{RowPair};
 
@@ -105,9 +105,9 @@ impl<A: Allocator + Copy> StreamingGarbler<A> {
     }
 
     /// Makes the row pairs of the next AND gates, in file order, and puts them in the first of these places: as many as
-    /// there are places or AND gates left. It returns how many. It also garbles the gates before the AND gate that
-    /// follows, so that all gates are garbled once the last row pair is made. It can't fail, and doesn't allocate. The
-    /// caller ensures that the garbler was begun with this circuit.
+    /// there are places or AND gates left. It returns how many; the other places stay the same. It also garbles the
+    /// gates before the AND gate that follows, so that all gates are garbled once the last row pair is made. It can't
+    /// fail, and doesn't allocate. The caller ensures that the garbler was begun with this circuit.
     pub fn next<C: Allocator>(&mut self, circuit: &Circuit<C>, rows: &mut [RowPair]) -> u32
         requires { IsGarblerOf circuit.now self.old }
         ensures begun { IsGarblerOf circuit.now self.new }
@@ -116,6 +116,7 @@ impl<A: Allocator + Copy> StreamingGarbler<A> {
         ensures made { self.new.made ≡ self.old.made + result }
         ensures count { result ≡ min (length rows.old) (and_count circuit.now - self.old.made) }
         ensures piece { GarblesPiece circuit.now self.old (take result rows.new) self.new }
+        ensures rest { KeepsFrom result rows.old rows.new }
     {
         self.advance(circuit, rows)
     }
@@ -130,11 +131,13 @@ impl<A: Allocator + Copy> StreamingGarbler<A> {
         ensures made { self.new.made ≡ self.old.made + result }
         ensures count { result ≡ min (length rows.old) (and_count circuit.now - self.old.made) }
         ensures piece { GarblesPiece circuit.now self.old (take result rows.new) self.new }
+        ensures rest { KeepsFrom result rows.old rows.new }
     {
         circuit.law_lawful();
         let alloc = *self.labels.allocator();
         let labels = mem::replace(&mut self.labels, Vec::new(alloc));
-        let begun = ZeroTable::new(self.offset, self.first.plus(self.made), labels);
+        let first = self.first.plus(self.made);
+        let begun = ZeroTable::new(self.offset, first, labels);
         let (table, to) = garble_piece(circuit, begun, self.gates, rows);
         let (labels, piece) = table.finish(rows);
         self.labels = labels;
@@ -220,6 +223,7 @@ fn garble_piece<A: Allocator, C: Allocator>(
     requires gates { from ≤ length circuit.now.gates }
     ensures garbled { GarblesOn circuit.now from result.1 table (rows_made table rows.old)
         result.0 (rows_made result.0 rows.new) }
+    ensures rest { KeepsFrom (result.0.made + length result.0.waiting) rows.old rows.new }
     ensures ends { EndsPiece circuit.now from (length rows.old) result.1 }
 {
     circuit.law_lawful();

@@ -8,6 +8,7 @@ ghost use Rattle.gc_half.specs.HalfGate.{and_zero};
 ghost use Rattle.gc_half.specs.OneGate.{first_read, second_read, row_pair, gate_rows};
 ghost use Rattle.gc_half.specs.Garbling.{zero_of};
 ghost use Rattle.gc_half.specs.Canonical.{with_row_pair};
+ghost use Rattle.gc_half.specs.Streaming.{KeepsFrom};
 ghost use Rattle.gc_half.specs.Waiting.{NoneSets, rows_made};
 ghost use Rattle.gc_half.specs.declared.garbling.RowPair.{RowPair};
 
@@ -94,6 +95,7 @@ impl<A: Allocator> ZeroTable<A> {
             (self.old.made + length self.old.waiting) gate.operation
             (first_read (slice_index self.old.labels) gate.operation)
             (second_read (slice_index self.old.labels) gate.operation)) }
+        ensures rest { KeepsFrom (self.new.made + length self.new.waiting) rows.old rows.new }
         ensures counted { self.new.made + length self.new.waiting
             ≡ self.old.made + length self.old.waiting + cond (is_and gate.operation) 1 0 }
         ensures waiting { (w : ℕ) → w ≢ gate.set → NoneSets w self.old.waiting
@@ -116,6 +118,7 @@ impl<A: Allocator> ZeroTable<A> {
         ensures labels { result.0.items ≡ self.labels }
         ensures made { result.1 ≡ self.made + length self.waiting }
         ensures rows { take result.1 rows.new ≡ rows_made self rows.old }
+        ensures rest { KeepsFrom result.1 rows.old rows.new }
     {
         self.make_waiting(rows);
         let ZeroTable {
@@ -137,6 +140,7 @@ impl<A: Allocator> ZeroTable<A> {
         ensures numbered { self.new.first ≡ self.old.first }
         ensures labels { self.new.labels ≡ self.old.labels }
         ensures rows { rows_made self.new rows.new ≡ rows_made self.old rows.old }
+        ensures rest { KeepsFrom (self.new.made + length self.new.waiting) rows.old rows.new }
         ensures counted { self.new.made + length self.new.waiting
             ≡ self.old.made + length self.old.waiting }
         ensures waiting { (w : ℕ) → NoneSets w self.old.waiting → NoneSets w self.new.waiting }
@@ -176,6 +180,7 @@ impl<A: Allocator> ZeroTable<A> {
         ensures rows { rows_made self.new rows.new ≡ rows_made self.old rows.old
             ++ row_pair (numbered_from self.old.first hash) self.old.offset
             (self.old.made + length self.old.waiting) a b ∷ [] }
+        ensures rest { KeepsFrom (self.new.made + length self.new.waiting) rows.old rows.new }
         ensures counted { self.new.made + length self.new.waiting
             ≡ self.old.made + length self.old.waiting + 1 }
         ensures waiting { (w : ℕ) → w ≢ set → NoneSets w self.new.waiting }
@@ -224,6 +229,7 @@ impl<A: Allocator> ZeroTable<A> {
         ensures numbered { self.new.first ≡ self.old.first }
         ensures labels { self.new.labels ≡ self.old.labels }
         ensures rows { take self.new.made rows.new ≡ rows_made self.old rows.old }
+        ensures rest { KeepsFrom self.new.made rows.old rows.new }
         ensures made { self.new.made ≡ self.old.made + length self.old.waiting }
         ensures waiting { self.new.waiting ≡ [] }
     {
@@ -243,6 +249,7 @@ impl<A: Allocator> ZeroTable<A> {
         requires number { self.old.made + 1 < 2 ^ 32 }
         ensures counted { self.new ≡ record self.old { made = self.old.made + 1 } }
         ensures rows { take self.new.made rows.new ≡ take self.old.made rows.old ++ pair ∷ [] }
+        ensures rest { KeepsFrom self.new.made rows.old rows.new }
     {
         rows[self.made as usize] = pair;
         self.made += 1;

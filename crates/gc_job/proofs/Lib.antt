@@ -4,6 +4,7 @@ pub mod DecodeLemmas
 pub mod HonestLemmas
 pub mod HonestFiles
 pub mod JoinLemmas
+pub mod JobsLemmas
 pub mod OutputLemmas
 pub mod TakeLemmas
 pub mod WiringLemmas

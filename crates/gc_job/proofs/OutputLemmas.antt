@@ -1,5 +1,7 @@
 -- The labels of the output wires.
-use Rattle.gc_job.proofs.Names.{◌≡◌, ℕ, ◌+◌, ◌-◌, ◌<◌, List, length, map, drop, slice_get, Some, Bool, Result, Ok, Err, refl, sym, ap, ◌∙◌, arith, range_with_len, length-map-range_with_len, get_or-map-range_with_len, length-zip, slice_get_within, get_or_from_slice_get, Netlist, output_wires, IsLawful, solution, on_outputs, solution_solves, table_end, hash, active_rule, active_local, EvalFault, Memory, GarbledParts, LabelFileParts, JobParts, IsWhole, job_of, subst, IsBound, labels_of, AreActive, IsDecodingOf, IsEvaluated}
+use Rattle.gc_job.proofs.Names.{◌≡◌, ℕ, ◌+◌, ◌-◌, ◌<◌, List, length, slice_get, Some, Bool, Result, Ok, Err, refl, sym, ap, ◌∙◌, arith, length-map-range_with_len, get_or-map-range_with_len, length-zip, slice_get_within, get_or_from_slice_get, Netlist, output_wires, IsLawful, solution, on_outputs, solution_solves, hash, active_rule, active_local, EvalFault, Memory, GarbledParts, LabelFileParts, JobParts, IsWhole, IsBound, labels_of, IsDecodingOf, IsEvaluated}
+use Rattle.std.proofs.Common.{IfOk}
+use Rattle.std.specs.Result.{result_map_both}
 use Rattle.std.proofs.lemmas.List.{length-map}
 use Rattle.gc_half.proofs.NumberedLemmas.{IsEvaluation-zero}
 use Rattle.gc_half.specs.Joined.{AreOutputLabels}
@@ -73,12 +75,8 @@ length-evaluated job whole bits is =
     let long = length-outputs job.circuit whole.lawful is.active labels refl in
     rw (is.decoding.0, length-map, length-zip) (omega (arith, long, whole.decode_bits))
 
-module _ (P : JobParts → Type 0) (job : JobParts) (c : Netlist) (g : GarbledParts)
-    (inputs : List ℕ) (same : c ≡ job.circuit) (is : job_of job.circuit g inputs ≡ job) where
-  -- What holds of the parts of a job holds of the job,
-  pub of-parts : P (job_of c g inputs) → P job
-  of-parts holds = subst P (ap (λ n. job_of n g inputs) same ∙ is) holds
-
-  -- and the other way round.
-  pub to-parts : P job → P (job_of c g inputs)
-  to-parts holds = subst P (sym (ap (λ n. job_of n g inputs) same ∙ is)) holds
+pub length-result : {V : Type 0} (bits_in : V → List Bool) (job : JobParts) → IsWhole job
+    → (r : Result V EvalFault) → IsEvaluated job (result_map_both bits_in (λ fault. fault) r)
+    → IfOk r (λ v. length (bits_in v) ≡ output_wires job.circuit)
+length-result bits_in job whole (Ok v) is = length-evaluated job whole (bits_in v) is
+length-result bits_in job whole (Err fault) is = tt

@@ -3,6 +3,7 @@ pub mod Job
 pub mod Binding
 pub mod Places
 pub mod Evaluate
+pub mod Jobs
 pub mod Honest
 pub mod Wiring
 pub mod ActiveLabels

@@ -6,37 +6,37 @@ ghost use Rattle.gc_netlist.specs.Circuit.{output_wires};
 ghost use Rattle.gc_half.specs.Hash.{hash as hash_of};
 ghost use Rattle.gc_half.specs.Entry.{output_tweak};
 ghost use Rattle.gc_half.specs.Evaluation.{decode};
-ghost use Rattle.gc_job.specs.Job.{IsWhole, job_of};
 ghost use Rattle.gc_job.specs.Evaluate.{IsRecognised, AreRecognised, IsFirstUnknown, IsKnownUntil, IsDecodingOf};
 
+use crate::detached::JobRef;
 use crate::fault::EvalFault;
-use gc_circuit::{Circuit, Memory};
-use gc_file::{EntryPair, Garbled, Version};
+use gc_circuit::Memory;
+use gc_file::{EntryPair, Version};
 use gc_half::tweak_hash_series;
 use gc_label::Label;
 use std::alloc::Allocator;
 
-/// The output bits that these active labels of the output wires decode to, by the parts of a job whose input labels are
-/// left out. In version 2 it is 48 at the first label whose hash is not the entry of its colour.
-pub(crate) fn decoding<A: Allocator, B: Allocator + Copy, C: Allocator>(
-    alloc: B,
-    circuit: &Circuit<C>,
-    garbled: &Garbled<A>,
-    labels: &[Label],
-) -> Result<Vec<bool, B>, EvalFault>
-    requires count { length labels.now ≡ output_wires circuit.now }
-    requires decode_bits { length garbled.now.decode_bits ≡ output_wires circuit.now }
-    ensures { (inputs : List ℕ) → IsDecodingOf (job_of circuit.now garbled.now inputs) labels.now
-        (result_map_both (λ bits. bits.items) (λ fault. fault) result) }
-{
-    circuit.law_lawful();
-    if garbled.version() == Version::Two {
-        let and_gates = circuit.and_count();
-        if let Some(output) = first_unknown(and_gates, garbled.entries(), labels) {
-            return Err(EvalFault::UnknownOutputLabel { output });
+impl<'j, A: Allocator, C: Allocator> JobRef<'j, A, C> {
+    /// The output bits that these active labels of the output wires decode to, as [`Job::decode`](crate::Job::decode)
+    /// returns them.
+    pub(crate) fn decode<B: Allocator + Copy>(
+        &self,
+        alloc: B,
+        labels: &[Label],
+    ) -> Result<Vec<bool, B>, EvalFault>
+        requires { length labels.now ≡ output_wires self.now.circuit }
+        ensures { IsDecodingOf self.now labels.now
+            (result_map_both (λ bits. bits.items) (λ fault. fault) result) }
+    {
+        let and_gates = self.circuit().and_count();
+        let garbled = self.garbled();
+        if garbled.version() == Version::Two {
+            if let Some(output) = first_unknown(and_gates, garbled.entries(), labels) {
+                return Err(EvalFault::UnknownOutputLabel { output });
+            }
         }
+        Ok(decoded(alloc, garbled.decode_bits(), labels)?)
     }
-    Ok(decoded(alloc, garbled.decode_bits(), labels)?)
 }
 
 /// The bits that these labels decode to: each is the decode bit xor the colour of the label. The caller ensures that

@@ -5,8 +5,7 @@ ghost use Rattle.std.specs.Result.{result_map_both};
 ghost use Rattle.gc_netlist.specs.Circuit.{output_wires};
 
 use crate::bind::{bound_labels, has_counts};
-use crate::decode::decoding;
-use crate::detached::DetachedJob;
+use crate::detached::{AsJob, DetachedJob, JobRef};
 use crate::facts::Facts;
 use crate::fault::{BindFault, EvalFault};
 use gc_circuit::Circuit;
@@ -126,15 +125,6 @@ impl<'c, A: Allocator, C: Allocator> Job<'c, A, C> {
     }
 
     /// The job without its circuit.
-    pub fn detached(&self) -> &DetachedJob<A>
-        ensures same { job_of self.now.circuit result.now.garbled result.now.inputs ≡ self.now }
-        ensures whole { IsWhole self.now }
-    {
-        self.law_whole();
-        &self.detached
-    }
-
-    /// The same, for a caller that gives the job up.
     pub fn detach(self) -> DetachedJob<A>
         ensures same { job_of self.entry.circuit result.garbled result.inputs ≡ self.entry }
         ensures whole { IsWhole self.entry }
@@ -165,7 +155,14 @@ impl<'c, A: Allocator, C: Allocator> Job<'c, A, C> {
         ensures { IsDecodingOf self.now labels.now
             (result_map_both (λ bits. bits.items) (λ fault. fault) result) }
     {
-        self.law_whole();
-        decoding(alloc, self.circuit, self.detached.garbled(), labels)
+        self.as_job().decode(alloc, labels)
+    }
+}
+
+impl<'c, A: Allocator, C: Allocator> AsJob<A, C> for Job<'c, A, C> {
+    ghost job = { λ job. job };
+
+    fn as_job(&self) -> JobRef<'_, A, C> {
+        self.detached.with_circuit(self.circuit)
     }
 }

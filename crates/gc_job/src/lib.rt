@@ -2,7 +2,8 @@
 //!
 //! [`Job::bind`] makes a [`Job`] of a circuit, a garbled file and one label file for each input value.
 //! [`output_labels`] evaluates it to the active labels of the output wires, which [`Job::decode`] decodes to bits;
-//! [`evaluate`] does both. [`law_honest_files`] says that honest files are bound to an honest job.
+//! [`evaluate`] does both, and [`evaluate_group`] evaluates up to four jobs side by side. [`law_honest_files`] says
+//! that honest files are bound to an honest job.
 #![tactic(auto)]
 
 mod bind;
@@ -12,18 +13,20 @@ mod facts;
 mod fault;
 mod four;
 mod job;
+mod jobs;
 mod laws;
 mod one_thread;
 mod readers;
 mod wiring;
 
 pub use decode::decoded;
-pub use detached::DetachedJob;
+pub use detached::{AsJob, DetachedJob, JobRef};
 pub use facts::Facts;
 pub use fault::{BindFault, EvalFault};
-pub use four::{evaluate_four, evaluate_four_detached};
+pub use four::evaluate_four;
 pub use job::Job;
+pub use jobs::{MAX_GROUP, evaluate_group, evaluate_rest, none_known};
 pub use laws::law_honest_files;
-pub use one_thread::{evaluate, evaluate_detached, output_labels, output_labels_detached};
+pub use one_thread::{evaluate, output_labels};
 pub use readers::ReadGate;
 pub use wiring::Wiring;

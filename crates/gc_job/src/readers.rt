@@ -57,62 +57,53 @@ impl<'c, A: Allocator, C: Allocator> Job<'c, A, C> {
         requires { gate < gates_of self.now }
         ensures { result ≡ active_from self.now gate first second }
     {
-        self.active_at(self.and_number(gate), gate, first, second)
+        let read = ReadGate {
+            gate,
+            first,
+            second,
+        };
+        self.active_at(self.and_number(gate), &read)
     }
 
     /// The same, with the tables of the job's circuit. The caller ensures that there is such a gate, and that the
     /// wiring is the circuit's.
     #[inline]
-    pub fn active_by<B: Allocator>(
-        &self,
-        wiring: &Wiring<'c, B, C>,
-        gate: u32,
-        first: Label,
-        second: Label,
-    ) -> Label
-        requires gate { gate < gates_of self.now }
+    pub fn active_by<B: Allocator>(&self, wiring: &Wiring<'c, B, C>, read: &ReadGate) -> Label
+        requires gate { read.now.gate < gates_of self.now }
         requires wiring { wiring.now ≡ self.now.circuit }
-        ensures { result ≡ active_from self.now gate first second }
+        ensures { result ≡ active_from self.now read.now.gate read.now.first read.now.second }
     {
-        self.active_at(wiring.and_number(gate), gate, first, second)
+        self.active_at(wiring.and_number(read.gate), read)
     }
 
     /// The same, where this is the gate's AND number.
     #[inline]
-    fn active_at(&self, number: u32, gate: u32, first: Label, second: Label) -> Label
-        requires gate { gate < gates_of self.now }
-        requires number { number ≡ and_number self.now.circuit gate }
-        ensures { result ≡ active_from self.now gate first second }
+    fn active_at(&self, number: u32, read: &ReadGate) -> Label
+        requires gate { read.now.gate < gates_of self.now }
+        requires number { number ≡ and_number self.now.circuit read.now.gate }
+        ensures { result ≡ active_from self.now read.now.gate read.now.first read.now.second }
     {
-        let operation = self.circuit().gate(gate).operation;
-        evaluate_gate(number, self.rows(), operation, first, second)
+        let operation = self.circuit().gate(read.gate).operation;
+        evaluate_gate(number, self.rows(), operation, read.first, read.second)
     }
 
-    /// The active labels of the wires that two gates set, each as [`Job::active_by`] gives it from the labels of the
-    /// wires that the gate reads first and second. Two AND gates are evaluated at once. The caller ensures that there
-    /// are such gates, and that the wiring is the circuit's.
+    /// The active labels of the wires that two gates set, each as [`Job::active_by`] gives it. Two AND gates are
+    /// evaluated at once. The caller ensures that there are such gates, and that the wiring is the circuit's.
     #[inline]
     pub fn active_two<B: Allocator>(
         &self,
         wiring: &Wiring<'c, B, C>,
-        one: u32,
-        one_read: (Label, Label),
-        other: u32,
-        other_read: (Label, Label),
+        one: &ReadGate,
+        other: &ReadGate,
     ) -> (Label, Label)
-        requires gates { (one < gates_of self.now) × (other < gates_of self.now) }
+        requires gates { (one.now.gate < gates_of self.now) × (other.now.gate < gates_of self.now) }
         requires wiring { wiring.now ≡ self.now.circuit }
-        ensures one { result.0 ≡ active_from self.now one one_read.0 one_read.1 }
-        ensures other { result.1 ≡ active_from self.now other other_read.0 other_read.1 }
+        ensures one { result.0 ≡ active_from self.now one.now.gate one.now.first one.now.second }
+        ensures other { result.1 ≡ active_from self.now other.now.gate other.now.first other.now.second }
     {
-        let step = self.and_step(wiring, one, one_read.0, one_read.1);
-        let other_step = self.and_step(wiring, other, other_read.0, other_read.1);
-        match (step, other_step) {
+        match (self.and_step(wiring, one), self.and_step(wiring, other)) {
             (Some(step), Some(other_step)) => eval_two_ands(step, other_step),
-            _ => (
-                self.active_by(wiring, one, one_read.0, one_read.1),
-                self.active_by(wiring, other, other_read.0, other_read.1),
-            ),
+            _ => (self.active_by(wiring, one), self.active_by(wiring, other)),
         }
     }
 
@@ -131,43 +122,37 @@ impl<'c, A: Allocator, C: Allocator> Job<'c, A, C> {
     {
         let [a, b, c, d] = gates;
         let steps = (
-            self.and_step(wiring, a.gate, a.first, a.second),
-            self.and_step(wiring, b.gate, b.first, b.second),
-            self.and_step(wiring, c.gate, c.first, c.second),
-            self.and_step(wiring, d.gate, d.first, d.second),
+            self.and_step(wiring, &a),
+            self.and_step(wiring, &b),
+            self.and_step(wiring, &c),
+            self.and_step(wiring, &d),
         );
         match steps {
             (Some(a), Some(b), Some(c), Some(d)) => eval_four_ands([a, b, c, d]),
             _ => [
-                self.active_by(wiring, a.gate, a.first, a.second),
-                self.active_by(wiring, b.gate, b.first, b.second),
-                self.active_by(wiring, c.gate, c.first, c.second),
-                self.active_by(wiring, d.gate, d.first, d.second),
+                self.active_by(wiring, &a),
+                self.active_by(wiring, &b),
+                self.active_by(wiring, &c),
+                self.active_by(wiring, &d),
             ],
         }
     }
 
     /// What the evaluation of a gate takes, where it is an AND gate.
     #[inline]
-    fn and_step<B: Allocator>(
-        &self,
-        wiring: &Wiring<'c, B, C>,
-        gate: u32,
-        a: Label,
-        b: Label,
-    ) -> Option<AndStep>
-        requires gate { gate < gates_of self.now }
+    fn and_step<B: Allocator>(&self, wiring: &Wiring<'c, B, C>, read: &ReadGate) -> Option<AndStep>
+        requires gate { read.now.gate < gates_of self.now }
         requires wiring { wiring.now ≡ self.now.circuit }
         ensures { IfSome result (λ step. active_label_of_step step
-            ≡ active_from self.now gate a b) }
+            ≡ active_from self.now read.now.gate read.now.first read.now.second) }
     {
-        let k = wiring.and_number(gate);
-        match self.circuit().gate(gate).operation {
+        let k = wiring.and_number(read.gate);
+        match self.circuit().gate(read.gate).operation {
             Operation::And(_, _) => Some(AndStep {
                 k,
                 rows: self.rows()[k as usize],
-                a,
-                b,
+                a: read.first,
+                b: read.second,
             }),
             _ => None,
         }

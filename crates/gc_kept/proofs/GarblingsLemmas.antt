@@ -27,7 +27,7 @@ module _ {X Y : Type 0} (of : X → Y) (xs : List X) (i : ℕ) (d x : X) (within
         ← take-map of i xs,
       ) refl
 
-  module _ (bytes_in : Y → List ℕ) where
+  module _ {Z : Type 0} (bytes_in : Y → List Z) where
     -- whose bytes come after those of the things before it,
     pub bytes_more : flat_map bytes_in (take (i + 1) (map of xs))
         ≡ flat_map bytes_in (take i (map of xs)) ++ bytes_in (of x)

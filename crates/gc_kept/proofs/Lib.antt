@@ -1,5 +1,4 @@
 pub mod FileLemmas
-pub mod JobLemmas
 pub mod JobsLemmas
 pub mod OutcomeLemmas
 pub mod PlainLemmas

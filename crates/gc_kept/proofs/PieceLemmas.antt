@@ -1,14 +1,11 @@
 -- Pieces of bytes that are written one after another.
-use Rattle.std.proofs.Common.{◌≡◌, ℕ, ◌+◌, ◌*◌, ◌<◌, List, [], ◌∷◌, ◌++◌, Bool, false, length, take, get_or, slice_get, Some, refl, sym, ap, ◌∙◌, append-nil, append_assoc, arith}
+use Rattle.std.proofs.Common.{◌≡◌, ℕ, ◌+◌, ◌*◌, ◌<◌, List, [], ◌∷◌, ◌++◌, Bool, length, take, get_or, slice_get, Some, refl, sym, ap, ◌∙◌, append-nil, arith}
 use Rattle.std.specs.List.{flat_map}
-use Rattle.std.proofs.lemmas.List.{take_more, length-take-le}
+use Rattle.std.proofs.lemmas.List.{take_more}
 use Rattle.std.proofs.lemmas.List.Concat.{flat_map-append}
 use Rattle.gc_label.specs.Label.{bytes_of_label}
-use Rattle.gc_half.specs.Evaluation.{encode}
 use Rattle.gc_half.specs.declared.garbling.RowPair.{RowPair}
 use Rattle.gc_file.specs.GarbledFile.{row_bytes}
-use Rattle.gc_file.specs.LabelFile.{encoded_with}
-use Rattle.gc_file.proofs.DealLemmas.{encoded_with-append}
 use Rattle.std.specs.List.{sum}
 use Rattle.std.proofs.Common.{◌≤◌, drop}
 use Rattle.std.proofs.lemmas.List.{length-map}
@@ -48,44 +45,6 @@ piece_more f size xs i x old new within at before next =
       flat_map-append f (take i xs) (x ∷ []),
       append-nil (f x),
     ) refl
-
--- One more row pair: its two labels.
-pub row_more : (rows : List RowPair) (i : ℕ) (row : RowPair) (old mid new : List ℕ)
-    → i < length rows
-    → row ≡ get_or rows i row → take (32 * i) old ≡ flat_map row_bytes (take i rows)
-    → take (16 * (2 * i) + 16) mid ≡ take (16 * (2 * i)) old ++ bytes_of_label row.generator
-    → take (16 * (2 * i + 1) + 16) new ≡ take (16 * (2 * i + 1)) mid ++ bytes_of_label row.evaluator
-    → take (32 * (i + 1)) new ≡ flat_map row_bytes (take (i + 1) rows)
-row_more rows i row old mid new within at before one two =
-    let first : 16 * (2 * i) ≡ 32 * i = omega arith in
-    let second : 16 * (2 * i + 1) ≡ 16 * (2 * i) + 16 = omega arith in
-    let third : 32 * i + 32 ≡ 16 * (2 * i + 1) + 16 = omega arith in
-    piece_more row_bytes 32 rows i row old new within at before
-    (rw (third, two, second, one, first) (append_assoc (take (32 * i) old) _ _))
-
-module _ (offset : ℕ) (zero_label : ℕ → ℕ) (first : ℕ) where
-  -- One more label that stands for a bit.
-  pub encoded_more : (bits : List Bool) (i label : ℕ) (old new : List ℕ) → i < length bits
-      → label ≡ encode offset (zero_label (first + i)) (get_or bits i false)
-      → take (16 * i) old
-      ≡ flat_map bytes_of_label (encoded_with offset zero_label first (take i bits))
-      → take (16 * i + 16) new ≡ take (16 * i) old ++ bytes_of_label label
-      → take (16 * (i + 1)) new
-      ≡ flat_map bytes_of_label (encoded_with offset zero_label first (take (i + 1) bits))
-  encoded_more bits i label old new within is before next =
-      let place : 16 * (i + 1) ≡ 16 * i + 16 = omega arith in
-      let count : length (take i bits) ≡ i = length-take-le i bits (omega arith) in
-      let more : encoded_with offset zero_label first (take (i + 1) bits)
-      ≡ encoded_with offset zero_label first (take i bits) ++ label ∷ [] =
-      ap (encoded_with offset zero_label first) (take_more bits i false within)
-      ∙ encoded_with-append offset zero_label first (take i bits) (get_or bits i false ∷ [])
-      ∙ rw (count, ← is) refl in
-      ap (λ n. take n new) place ∙ next ∙ ap (λ l. l ++ bytes_of_label label) before
-      ∙ sym (ap (flat_map bytes_of_label) more
-      ∙ flat_map-append bytes_of_label (encoded_with offset zero_label first (take i bits))
-      (label ∷ [])
-      ∙ ap (λ l. flat_map bytes_of_label (encoded_with offset zero_label first (take i bits)) ++ l)
-      (append-nil (bytes_of_label label)))
 
 -- Labels that were read are as many as their bytes say,
 pub length-labels : (labels bytes : List ℕ) → flat_map bytes_of_label labels ≡ bytes

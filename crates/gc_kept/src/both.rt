@@ -7,7 +7,8 @@ ghost use Rattle.gc_kept.specs.Garbler.{AreBoth};
 
 use crate::bits::bit_byte;
 use crate::fault::KeptFault;
-use crate::label_bytes::{has_room, write_labels, write_sums};
+use crate::label_bytes::{write_labels, write_sums};
+use crate::room::has_room;
 use gc_file::sizes::LABEL;
 use gc_label::{Label, Offset};
 

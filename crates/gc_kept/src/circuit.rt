@@ -1,16 +1,17 @@
 //! Circuits with their digests, which several may hold.
 
-ghost use Rattle.std.specs.Prelude.{◌≡◌, IfOk, IfErr};
+ghost use Rattle.std.specs.Prelude.{◌≡◌, ◌<◌, ◌^◌, Some, slice_get, IfOk, IfErr};
 ghost use Rattle.sha2.specs.Sha256.{sha256};
 ghost use Rattle.gc_netlist.specs.Circuit.{IsLawful};
 ghost use Rattle.gc_netlist.specs.Canon.{canonical_text};
 ghost use Rattle.gc_netlist.specs.Spelling.{Spells};
 ghost use Rattle.gc_depth.specs.Order.{IsOrdered};
-ghost use Rattle.gc_kept.specs.Circuit.{HasCircuitTextFault};
+ghost use Rattle.gc_kept.specs.Circuit.{HasCircuitTextFault, HasNoValue};
 
 use crate::fault::KeptFault;
 use gc_circuit::Circuit;
 use gc_depth::order_by_depth;
+use gc_job::BindFault;
 use std::alloc::{AllocError, Global};
 use std::marker::Model;
 use std::sync::Arc;
@@ -60,6 +61,18 @@ impl Digested {
     }
 }
 
+/// The width at this index, or 42 where there is none.
+fn width_of(widths: &[u32], index: u32) -> Result<usize, KeptFault>
+    ensures ok { IfOk result (λ width. slice_get widths.now index ≡ Some width) }
+    ensures few { IfOk result (λ width. width < 2 ^ 32) }
+    ensures fault { IfErr result (HasNoValue widths.now index) }
+{
+    match widths.get(index as usize) {
+        Some(width) => Ok(*width as usize),
+        None => Err(KeptFault::Binding(BindFault::NoSuchValue)),
+    }
+}
+
 /// A circuit with its digest. It is shared with its garblings and jobs, and dropped with the last holder.
 #[derive(Drop)]
 pub struct KeptCircuit {
@@ -103,6 +116,24 @@ impl KeptCircuit {
         ensures lawful { IsLawful self.now }
     {
         self.shared.circuit()
+    }
+
+    /// How many wires the input value with this index has. It refuses an index without a value (42).
+    pub(crate) fn input_width(&self, index: u32) -> Result<usize, KeptFault>
+        ensures ok { IfOk result (λ width. slice_get self.now.input_widths index ≡ Some width) }
+        ensures few { IfOk result (λ width. width < 2 ^ 32) }
+        ensures fault { IfErr result (HasNoValue self.now.input_widths index) }
+    {
+        width_of(self.circuit().input_widths(), index)
+    }
+
+    /// How many wires the output value with this index has. It refuses an index without a value (42).
+    pub(crate) fn output_width(&self, index: u32) -> Result<usize, KeptFault>
+        ensures ok { IfOk result (λ width. slice_get self.now.output_widths index ≡ Some width) }
+        ensures few { IfOk result (λ width. width < 2 ^ 32) }
+        ensures fault { IfErr result (HasNoValue self.now.output_widths index) }
+    {
+        width_of(self.circuit().output_widths(), index)
     }
 
     /// Its digest, which was taken when it was read.

@@ -6,7 +6,7 @@ ghost use Rattle.gc_kept.specs.Labels.{AreEvaluatedTo, HasLabelsEvalFault, AreDe
 use crate::bits::{read_bits, write_bits};
 use crate::circuit::KeptCircuit;
 use crate::fault::KeptFault;
-use crate::label_bytes::has_room;
+use crate::room::has_room;
 use gc_file::labels_from_bytes;
 use gc_file::sizes::{LABEL, PAIR};
 use gc_half::FirstAnd;

@@ -1,21 +1,19 @@
 //! Jobs that hold their circuit.
 
-ghost use Rattle.std.specs.Prelude.{◌≡◌, ◌↔◌, length, IfOk, IfErr, IfSome, IsTrue, Ok, OnOk, OnErr};
-ghost use Rattle.std.specs.Result.{result_map_both};
+ghost use Rattle.std.specs.Prelude.{◌≡◌, ◌<◌, ◌^◌, length, IfOk, IfErr, OnOk, OnErr};
 ghost use Rattle.gc_netlist.specs.Circuit.{output_wires};
-ghost use Rattle.gc_job.specs.Evaluate.{IsEvaluated};
 ghost use Rattle.gc_kept.specs.Job.{IsBoundJob, HasKeptJobFault, AreEvaluated, HasEvaluationFault};
 ghost use Rattle.gc_kept.specs.Labels.{AreJobLabels, HasJobLabelsFault};
 
 use crate::bits::write_bits;
 use crate::circuit::KeptCircuit;
 use crate::fault::KeptFault;
-use crate::label_bytes::{has_room, write_labels};
+use crate::label_bytes::write_labels;
 use crate::label_files::read_label_files;
-use gc_circuit::Circuit;
+use crate::room::has_room;
 use gc_file::read_garbled;
 use gc_file::sizes::LABEL;
-use gc_job::{DetachedJob, EvalFault, Job, evaluate_detached, output_labels_detached};
+use gc_job::{AsJob, DetachedJob, EvalFault, Job, JobRef};
 use std::alloc::Global;
 use std::marker::Model;
 
@@ -59,54 +57,28 @@ impl KeptCircuit {
     }
 }
 
-impl KeptJob {
-    ghost use Rattle.gc_job.specs.Job.{IsWhole, job_of};
+impl AsJob<Global, Global> for &KeptJob {
+    ghost job = { λ job. job.now };
 
-    /// The circuit.
-    pub(crate) fn circuit(&self) -> &Circuit<Global>
-        ensures { result.now ≡ self.now.circuit }
-    {
-        self.circuit.circuit()
+    fn as_job(&self) -> JobRef<'_> {
+        self.borrowed()
     }
+}
 
-    /// The job without its circuit.
-    pub(crate) fn detached(&self) -> &DetachedJob<Global>
-        ensures same { job_of self.now.circuit result.now.garbled result.now.inputs ≡ self.now }
-        ensures whole { IsWhole self.now }
+impl KeptJob {
+    /// The job, borrowed.
+    pub(crate) fn borrowed(&self) -> JobRef<'_>
+        ensures { result ≡ self.now }
     {
-        &self.job
+        self.job.with_circuit(self.circuit.circuit())
     }
 
     /// How many output wires the circuit has.
     pub(crate) fn outputs(&self) -> usize
-        ensures { result ≡ output_wires self.now.circuit }
+        ensures outputs { result ≡ output_wires self.now.circuit }
+        ensures few { result < 2 ^ 32 }
     {
-        self.circuit().output_wires() as usize
-    }
-
-    /// Whether another job is on an equal circuit.
-    pub(crate) fn is_beside(&self, other: &KeptJob) -> bool
-        ensures { IsTrue result ↔ (self.now.circuit ≡ other.now.circuit) }
-    {
-        self.circuit().equals(other.circuit())
-    }
-
-    /// The bits of the output wires: these, where some are known.
-    pub(crate) fn output_bits(
-        &self,
-        alloc: Global,
-        known: Option<Vec<bool, Global>>,
-    ) -> Result<Vec<bool, Global>, EvalFault>
-        requires { IfSome known (λ bits. IsEvaluated self.now (Ok bits.items)) }
-        ensures evaluated { IsEvaluated self.now
-            (result_map_both (λ bits. bits.items) (λ fault. fault) result) }
-        ensures count { IfOk result (λ bits.
-            length bits.items ≡ output_wires self.now.circuit) }
-    {
-        match known {
-            Some(bits) => Ok(bits),
-            None => evaluate_detached(alloc, self.circuit(), &self.job),
-        }
+        self.circuit.circuit().output_wires() as usize
     }
 
     /// Evaluates the job, as [`gc_job::evaluate`] does, and writes the bits of the output wires to the front of a
@@ -118,7 +90,7 @@ impl KeptJob {
     {
         let outputs = self.outputs();
         has_room(outputs, bits)?;
-        let found = self.output_bits(alloc, None)?;
+        let found = self.borrowed().evaluate(alloc)?;
         write_bits(&found, &mut bits[..outputs]);
         Ok(())
     }
@@ -131,9 +103,8 @@ impl KeptJob {
         ensures fault { IfErr result (HasJobLabelsFault self.now (length outputs.old)) }
         ensures unwritten { OnErr result (outputs.new ≡ outputs.old) }
     {
-        let circuit = self.circuit.circuit();
-        has_room(LABEL * circuit.output_wires() as usize, outputs)?;
-        let Ok(labels) = output_labels_detached(alloc, circuit, &self.job) else {
+        has_room(LABEL * self.outputs(), outputs)?;
+        let Ok(labels) = self.borrowed().output_labels(alloc) else {
             return Err(KeptFault::Evaluation(EvalFault::Memory));
         };
         write_labels(&labels, outputs);

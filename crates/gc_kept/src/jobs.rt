@@ -1,16 +1,15 @@
 //! Lists of jobs.
 
-ghost use Rattle.std.specs.Prelude.{◌≡◌, ◌+◌, ◌<◌, ◌≤◌, ℕ, length, map, min, take, slice_get, Some, IfOk, IfErr, IfSome, OnOk, OnErr};
-ghost use Rattle.gc_job.specs.Job.{JobParts};
+ghost use Rattle.std.specs.Prelude.{◌≡◌, ◌↔◌, ◌+◌, ◌<◌, ◌≤◌, length, map, flat_map, IfOk, IfErr, IsTrue, OnOk, OnErr};
+ghost use Rattle.gc_job.specs.Jobs.{AreBeside, AreKnown};
 ghost use Rattle.gc_kept.specs.Files.{HasRoomFault};
-ghost use Rattle.gc_kept.specs.Jobs.{AreAllEvaluated, AreBitsAt, AreBitsOf, AreOnOneCircuit, HasFirstJobFault, HasJobListFault, outputs_of};
+ghost use Rattle.gc_kept.specs.Jobs.{AreAllEvaluated, HasJobListFault, outputs_of};
 
 use crate::bits::write_bits;
 use crate::fault::KeptFault;
 use crate::job::KeptJob;
-use gc_half::Four;
-use gc_job::evaluate_four_detached;
-use std::alloc::Global;
+use gc_job::{MAX_GROUP, evaluate_group, evaluate_rest, none_known};
+use std::alloc::{AllocError, Global};
 
 /// Evaluates these jobs on one thread, each as [`KeptJob::evaluate`] does, and writes the bits of the output wires, one
 /// job's after another's, to the front of a buffer. Where jobs that follow one another are on one circuit, up to four
@@ -22,8 +21,10 @@ pub fn evaluate_list(alloc: Global, jobs: &[&KeptJob], bits: &mut [u8]) -> Resul
     ensures unwritten { OnErr result (bits.new ≡ bits.old) }
 {
     look_for_room(jobs, bits)?;
-    let found = bits_of(alloc, jobs)?;
-    write_bits(&found, &mut bits[..found.len()]);
+    let known = known_of(alloc, jobs)?;
+    let found = evaluate_rest(alloc, jobs, known)?;
+    let all = joined(alloc, &found)?;
+    write_bits(&all, &mut bits[..all.len()]);
     Ok(())
 }
 
@@ -44,123 +45,54 @@ fn look_for_room(jobs: &[&KeptJob], buffer: &[u8]) -> Result<(), KeptFault>
     Ok(())
 }
 
-/// The bits of the output wires of these jobs, one job's after another's.
-fn bits_of(alloc: Global, jobs: &[&KeptJob]) -> Result<Vec<bool, Global>, KeptFault>
-    ensures ok { IfOk result (λ bits. AreBitsOf (map (λ j. j.now) jobs.now) bits.items) }
-    ensures fault { IfErr result (HasFirstJobFault (map (λ j. j.now) jobs.now)) }
+/// For each job its output bits, where evaluating jobs side by side gives some.
+fn known_of(
+    alloc: Global,
+    jobs: &[&KeptJob],
+) -> Result<Vec<Option<Vec<bool, Global>>, Global>, AllocError>
+    ensures { IfOk result (λ v. AreKnown (map (λ j. j.now) jobs.now) v.items) }
 {
-    let mut bits = Vec::new(alloc);
+    let mut known = none_known(alloc, jobs.len())?;
     let mut next = 0;
     while next < jobs.len() {
         let end = end_of_group(jobs, next);
-        add_group(alloc, jobs, next, end, &mut bits)?;
+        evaluate_group(alloc, jobs, next..end, known.as_mut_slice());
         next = end;
     }
-    Ok(bits)
+    Ok(known)
 }
-
-/// How many jobs are evaluated side by side.
-const AT_ONCE: usize = 4;
 
 /// Where the jobs end that are evaluated together, from one on: they are on one circuit.
 fn end_of_group(jobs: &[&KeptJob], first: usize) -> usize
     requires { first < length jobs.now }
     ensures some { first < result }
-    ensures few { result ≤ first + AT_ONCE }
+    ensures few { result ≤ first + MAX_GROUP }
     ensures within { result ≤ length jobs.now }
-    ensures one { AreOnOneCircuit (map (λ j. j.now) jobs.now) first result }
+    ensures one { AreBeside (map (λ j. j.now) jobs.now) first result }
 {
-    let last = (first + AT_ONCE).min(jobs.len());
+    let last = (first + MAX_GROUP).min(jobs.len());
     let mut end = first + 1;
-    while end < last && jobs[end].is_beside(jobs[first]) {
+    while end < last && is_beside(jobs[end], jobs[first]) {
         end += 1;
     }
     end
 }
 
-/// Adds the bits of the jobs from place `first` on and before `end`, which are evaluated together, to those of the jobs
-/// before them.
-fn add_group(
-    alloc: Global,
-    jobs: &[&KeptJob],
-    first: usize,
-    end: usize,
-    bits: &mut Vec<bool, Global>,
-) -> Result<(), KeptFault>
-    requires some { first < end }
-    requires few { end ≤ first + AT_ONCE }
-    requires within { end ≤ length jobs.now }
-    requires one { AreOnOneCircuit (map (λ j. j.now) jobs.now) first end }
-    requires before { AreBitsOf (take first (map (λ j. j.now) jobs.now)) bits.old.items }
-    ensures ok { OnOk result (AreBitsOf (take end (map (λ j. j.now) jobs.now)) bits.new.items) }
-    ensures fault { IfErr result (HasFirstJobFault (map (λ j. j.now) jobs.now)) }
+/// Whether two jobs are on equal circuits.
+fn is_beside(job: &KeptJob, other: &KeptJob) -> bool
+    ensures { IsTrue result ↔ (job.now.circuit ≡ other.now.circuit) }
 {
-    let Four { a, b, c, d } = evaluate_group(alloc, jobs, first, end);
-    add(alloc, jobs, first, end, a, bits)?;
-    add(alloc, jobs, first + 1, end, b, bits)?;
-    add(alloc, jobs, first + 2, end, c, bits)?;
-    add(alloc, jobs, first + 3, end, d, bits)
+    job.borrowed().circuit().equals(other.borrowed().circuit())
 }
 
-/// The bits of the jobs from place `first` on and before `end`, at most four on one circuit, where evaluating them side
-/// by side gives some: none of one job alone. Of two or three, the last one takes the lanes that are left.
-fn evaluate_group(
-    alloc: Global,
-    jobs: &[&KeptJob],
-    first: usize,
-    end: usize,
-) -> Four<Option<Vec<bool, Global>>>
-    requires some { first < end }
-    requires within { end ≤ length jobs.now }
-    requires one { AreOnOneCircuit (map (λ j. j.now) jobs.now) first end }
-    ensures a { IfSome result.a (λ v. AreBitsAt (map (λ j. j.now) jobs.now) first v.items) }
-    ensures b { first + 1 < end
-        → IfSome result.b (λ v. AreBitsAt (map (λ j. j.now) jobs.now) (first + 1) v.items) }
-    ensures c { first + 2 < end
-        → IfSome result.c (λ v. AreBitsAt (map (λ j. j.now) jobs.now) (first + 2) v.items) }
-    ensures d { first + 3 < end
-        → IfSome result.d (λ v. AreBitsAt (map (λ j. j.now) jobs.now) (first + 3) v.items) }
+/// These bits, one list's after another's.
+fn joined(alloc: Global, lists: &[Vec<bool, Global>]) -> Result<Vec<bool, Global>, AllocError>
+    ensures { IfOk result (λ bits.
+        bits.items ≡ flat_map (λ list. list) (map (λ list. list.items) lists.now)) }
 {
-    let last = end - 1;
-    if first == last {
-        return Four {
-            a: None,
-            b: None,
-            c: None,
-            d: None,
-        };
+    let mut bits = Vec::new(alloc);
+    for list in lists {
+        bits.extend_from_slice(list)?;
     }
-    let group = Four {
-        a: jobs[first].detached(),
-        b: jobs[(first + 1).min(last)].detached(),
-        c: jobs[(first + 2).min(last)].detached(),
-        d: jobs[(first + 3).min(last)].detached(),
-    };
-    evaluate_four_detached(alloc, jobs[first].circuit(), group)
-}
-
-/// Adds the bits of the job at a place to those of the jobs before it, where the place comes before `end`. If they
-/// aren't known, the job is evaluated alone.
-fn add(
-    alloc: Global,
-    jobs: &[&KeptJob],
-    place: usize,
-    end: usize,
-    known: Option<Vec<bool, Global>>,
-    bits: &mut Vec<bool, Global>,
-) -> Result<(), KeptFault>
-    requires within { end ≤ length jobs.now }
-    requires known { place < end
-        → IfSome known (λ v. AreBitsAt (map (λ j. j.now) jobs.now) place v.items) }
-    requires before { AreBitsOf (take (min place end) (map (λ j. j.now) jobs.now)) bits.old.items }
-    ensures ok { OnOk result
-        (AreBitsOf (take (min (place + 1) end) (map (λ j. j.now) jobs.now)) bits.new.items) }
-    ensures fault { IfErr result (HasFirstJobFault (map (λ j. j.now) jobs.now)) }
-{
-    if place >= end {
-        return Ok(());
-    }
-    let found = jobs[place].output_bits(alloc, known)?;
-    bits.extend_from_slice(&found)?;
-    Ok(())
+    Ok(bits)
 }

@@ -1,26 +1,13 @@
 //! Labels and row pairs as bytes that are in no file.
 
-ghost use Rattle.std.specs.Prelude.{◌≡◌, ◌+◌, ◌*◌, ◌++◌, ◌≤◌, ◌<◌, length, flat_map, map, take, slice_index, OnOk, OnErr, IfErr};
+ghost use Rattle.std.specs.Prelude.{◌≡◌, ◌+◌, ◌*◌, ◌++◌, ◌≤◌, length, flat_map, map, take};
 ghost use Rattle.gc_label.specs.Label.{bytes_of_label, ◌⊕◌};
 ghost use Rattle.gc_file.specs.GarbledFile.{row_bytes};
-ghost use Rattle.gc_file.specs.LabelFile.{encoded_with};
-ghost use Rattle.gc_kept.specs.Files.{IsFileAt, HasRoomFault};
+ghost use Rattle.gc_kept.specs.Files.{IsFileAt};
 
-use crate::fault::KeptFault;
 use gc_file::sizes::{LABEL, PAIR};
-use gc_half::{RowPair, encode};
-use gc_label::{Label, Offset};
-
-/// Checks that a buffer has room for `size` bytes.
-pub(crate) fn has_room(size: usize, buffer: &[u8]) -> Result<(), KeptFault>
-    ensures ok { OnOk result (size ≤ length buffer.now) }
-    ensures fault { IfErr result (HasRoomFault size (length buffer.now)) }
-{
-    if buffer.len() < size {
-        return Err(KeptFault::SmallBuffer);
-    }
-    Ok(())
-}
+use gc_half::RowPair;
+use gc_label::Label;
 
 /// Writes a label to its place among labels. The caller ensures that there is such a place.
 #[inline]
@@ -51,27 +38,6 @@ fn put_sums(labels: &[Label], difference: Label, bytes: &mut [u8])
 {
     for i in 0..labels.len() {
         put_label(labels[i].xor(difference), i, bytes);
-    }
-}
-
-/// Writes the labels that stand for bits on the wires from the first one on. The caller ensures that there are zero
-/// labels for these wires, and 16 bytes for each.
-pub(crate) fn put_encoded(
-    zero_labels: &[Label],
-    offset: Offset,
-    first: usize,
-    bits: &[bool],
-    bytes: &mut [u8],
-)
-    requires wires { first + length bits.now ≤ length zero_labels.now }
-    requires bytes { length bytes.old ≡ 16 * length bits.now }
-    ensures { bytes.new ≡ flat_map bytes_of_label
-        (encoded_with offset (slice_index zero_labels.now) first bits.now) }
-{
-    for i in 0..bits.len() {
-        let bit = bits[i];
-        let zero_label = zero_labels[first + i];
-        put_label(encode(offset, zero_label, bit), i, bytes);
     }
 }
 

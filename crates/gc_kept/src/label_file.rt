@@ -1,22 +1,25 @@
-//! Label files of a garbling, and of labels that were received.
+//! Label files, dealt under a seed or from a garbling, and of labels that were received.
 
-ghost use Rattle.std.specs.Prelude.{◌≡◌, ◌≢◌, ◌+◌, ◌*◌, ◌^◌, ◌<◌, ◌≤◌, ◌++◌, take, length, slice_get, slice_index, Some, IfErr, OnOk, OnErr};
-ghost use Rattle.gc_file.specs.LabelFile.{label_file, label_parts_with, label_magic};
+ghost use Rattle.std.specs.Prelude.{◌≡◌, ◌≢◌, ℕ, ◌+◌, ◌*◌, ◌^◌, ◌<◌, ◌≤◌, ◌++◌, take, length, map, slice_get, slice_index, Some, IfOk, IfErr, OnOk, OnErr};
+ghost use Rattle.std.specs.List.{range_with_len};
+ghost use Rattle.gc_netlist.specs.Spelling.{bit_number};
+ghost use Rattle.gc_label.specs.Seed.{input_label_of};
+ghost use Rattle.gc_file.specs.LabelFile.{encoded_with, label_file, label_magic};
 ghost use Rattle.gc_file.specs.Number.{number_bytes};
-ghost use Rattle.gc_kept.specs.Files.{IsDealtFrom, HasDealtFaultFrom};
+ghost use Rattle.gc_kept.specs.Files.{HasDealtFault, HasDealtFaultFrom, HasDealtFaultWith, IsDealtAt, IsDealtFrom, IsFileAt};
 ghost use Rattle.gc_kept.specs.Labels.{IsReceivedAt, HasReceivedFault};
 
 use crate::bits::read_bits;
 use crate::circuit::KeptCircuit;
 use crate::fault::KeptFault;
-use crate::files::look_for_room;
 use crate::garbling::KeptGarbling;
-use crate::label_bytes::{put_encoded, put_labels};
+use crate::label_bytes::put_labels;
+use crate::room::look_for_room;
 use gc_file::sizes::{LABEL, LABEL_HEADER};
 use gc_file::{first_wire, label_header, labels_from_bytes};
-use gc_job::BindFault;
-use gc_label::Label;
-use std::alloc::Global;
+use gc_half::encode;
+use gc_label::{Label, Offset, Seed, fill_input_labels, offset};
+use std::alloc::{AllocError, Global};
 
 /// Writes the header of a label file. The caller ensures that there is room.
 fn put_header(index: u32, width: u32, file: &mut [u8])
@@ -37,7 +40,113 @@ fn put_file(index: u32, labels: &[Label], file: &mut [u8])
     put_labels(labels, &mut file[LABEL_HEADER..]);
 }
 
+/// Writes the label file with this index and these labels to the front of a buffer, whose end stays as it is, and
+/// returns the number of its bytes. The caller ensures that there is room.
+fn write_file(index: u32, labels: &[Label], buffer: &mut [u8]) -> usize
+    requires room { 16 + 16 * length labels.now ≤ length buffer.old }
+    requires few { length labels.now < 2 ^ 32 }
+    ensures file { IsFileAt (label_file (record { index = index; labels = labels.now }))
+        buffer.old buffer.new }
+    ensures size { result ≡ 16 + 16 * length labels.now }
+{
+    let size = LABEL_HEADER + LABEL * labels.len();
+    put_file(index, labels, &mut buffer[..size]);
+    size
+}
+
+/// The zero labels that a seed gives to this many input wires from the first one on.
+fn zero_labels(
+    alloc: Global,
+    seed: &Seed,
+    first: u32,
+    count: usize,
+) -> Result<Vec<Label, Global>, AllocError>
+    requires { first + count ≤ 2 ^ 32 }
+    ensures { IfOk result (λ v.
+        v.items ≡ map (input_label_of seed.now) (range_with_len first count)) }
+{
+    let mut labels = Vec::with_capacity(alloc, count)?;
+    labels.resize(count, Label::ZERO)?;
+    fill_input_labels(seed, first, labels.as_mut_slice());
+    Ok(labels)
+}
+
+/// The labels that stand for bits on wires with these zero labels. The caller ensures that there are as many.
+fn encoded(
+    alloc: Global,
+    offset: Offset,
+    zero_labels: &[Label],
+    bits: &[bool],
+) -> Result<Vec<Label, Global>, AllocError>
+    requires { length zero_labels.now ≡ length bits.now }
+    ensures { IfOk result (λ v.
+        v.items ≡ encoded_with offset (slice_index zero_labels.now) 0 bits.now) }
+{
+    let mut labels = Vec::with_capacity(alloc, bits.len())?;
+    for i in 0..bits.len() {
+        labels.push(encode(offset, zero_labels[i], bits[i]))?;
+    }
+    Ok(labels)
+}
+
 impl KeptCircuit {
+    /// The bits that these bytes are, for the input value with this index, where a buffer has room for a label file of
+    /// them. It refuses what [`KeptCircuit::deal`] refuses.
+    fn dealt_bits(
+        &self,
+        alloc: Global,
+        index: u32,
+        bits: &[u8],
+        buffer: &[u8],
+        written: &mut usize,
+    ) -> Result<Vec<bool, Global>, KeptFault>
+        ensures bytes { IfOk result (λ v. bits.now ≡ map bit_number v.items) }
+        ensures width { IfOk result (λ v.
+            slice_get self.now.input_widths index ≡ Some (length v.items)) }
+        ensures few { IfOk result (λ v. length v.items < 2 ^ 32) }
+        ensures room { IfOk result (λ v. 16 + 16 * length v.items ≤ length buffer.now) }
+        ensures fault { (offset : ℕ) (zero_label : ℕ → ℕ) → IfErr result (HasDealtFaultWith self.now
+            offset zero_label index bits.now (length buffer.now) written.new) }
+        ensures unreported { IfErr result (λ fault.
+            fault ≢ KeptFault.SmallBuffer → written.new ≡ written.old) }
+        ensures unwritten { IfOk result (λ _. written.new ≡ written.old) }
+    {
+        let width = self.input_width(index)?;
+        let bits = read_bits(alloc, bits, width)?;
+        look_for_room(LABEL_HEADER + LABEL * width, buffer, written)?;
+        Ok(bits)
+    }
+
+    /// Writes the label file of the input value with this index, for these bits under a seed, and reports the number of
+    /// its bytes. It refuses an index without a value (42), a wrong number of bits (16), a byte other than 0 and 1
+    /// (15), and a buffer that is too small (61): then no file is made, and `written` is the size that is needed. After
+    /// another fault it is as it was.
+    pub fn deal(
+        &self,
+        alloc: Global,
+        seed: &[u8; 32],
+        index: u32,
+        bits: &[u8],
+        buffer: &mut [u8],
+        written: &mut usize,
+    ) -> Result<(), KeptFault>
+        ensures ok { OnOk result
+            (IsDealtAt self.now seed.now index bits.now buffer.old buffer.new written.new) }
+        ensures fault { IfErr result
+            (HasDealtFault self.now seed.now index bits.now (length buffer.old) written.new) }
+        ensures unwritten { OnErr result (buffer.new ≡ buffer.old) }
+        ensures unreported { IfErr result (λ fault.
+            fault ≢ KeptFault.SmallBuffer → written.new ≡ written.old) }
+    {
+        let bits = self.dealt_bits(alloc, index, bits, buffer, written)?;
+        let seed = Seed::from_bytes(*seed);
+        let first = first_wire(self.circuit(), index as usize);
+        let zero_labels = zero_labels(alloc, &seed, first, bits.len())?;
+        let labels = encoded(alloc, offset(&seed), &zero_labels, &bits)?;
+        *written = write_file(index, &labels, buffer);
+        Ok(())
+    }
+
     /// Writes the label file of the input value with this index and these labels, 16 bytes each, and reports the number
     /// of its bytes. It refuses an index without a value (42), another number of bytes than 16 for each wire of the
     /// value (66), and a buffer that is too small (61): then `written` is the size that is needed. After another
@@ -58,19 +167,15 @@ impl KeptCircuit {
         ensures unreported { IfErr result (λ fault.
             fault ≢ KeptFault.SmallBuffer → written.new ≡ written.old) }
     {
-        let Some(width) = self.circuit().input_widths().get(index as usize) else {
-            return Err(KeptFault::Binding(BindFault::NoSuchValue));
-        };
-        let size = LABEL * *width as usize;
-        if labels.len() != size {
+        let width = self.input_width(index)?;
+        if labels.len() != LABEL * width {
             return Err(KeptFault::WrongSize);
         }
-        look_for_room(LABEL_HEADER + size, buffer, written)?;
+        look_for_room(LABEL_HEADER + LABEL * width, buffer, written)?;
         let Ok(labels) = labels_from_bytes(alloc, labels) else {
             return Err(KeptFault::Memory);
         };
-        put_file(index, &labels, &mut buffer[..LABEL_HEADER + size]);
-        *written = LABEL_HEADER + size;
+        *written = write_file(index, &labels, buffer);
         Ok(())
     }
 }
@@ -94,37 +199,11 @@ impl KeptGarbling {
         ensures unreported { IfErr result (λ fault.
             fault ≢ KeptFault.SmallBuffer → written.new ≡ written.old) }
     {
-        let circuit = self.circuit.circuit();
-        let Some(width) = circuit.input_widths().get(index as usize) else {
-            return Err(KeptFault::Binding(BindFault::NoSuchValue));
-        };
-        let width = *width as usize;
-        let bits = read_bits(alloc, bits, width)?;
-        let size = LABEL_HEADER + LABEL * width;
-        look_for_room(size, buffer, written)?;
-        self.put_dealt(index, &bits, &mut buffer[..size]);
-        *written = size;
+        let circuit = self.circuit();
+        let bits = circuit.dealt_bits(alloc, index, bits, buffer, written)?;
+        let zero_labels = self.input_zero_labels(index, bits.len());
+        let labels = encoded(alloc, self.offset, zero_labels, &bits)?;
+        *written = write_file(index, &labels, buffer);
         Ok(())
-    }
-
-    /// Writes the label file of an input value with these bits. The caller ensures that there is such a value, that the
-    /// bits have its width, and that there are as many bytes as the file has.
-    fn put_dealt(&self, index: u32, bits: &[bool], file: &mut [u8])
-        requires value { slice_get self.now.circuit.input_widths index ≡ Some (length bits.now) }
-        requires bytes { length file.old ≡ 16 + 16 * length bits.now }
-        ensures { file.new ≡ label_file (label_parts_with self.now.circuit self.now.offset
-            (slice_index self.now.garbling.zero_labels) index bits.now) }
-    {
-        let circuit = self.circuit.circuit();
-        let first = first_wire(circuit, index as usize) as usize;
-        put_header(index, bits.len() as u32, file);
-        let labels = &mut file[LABEL_HEADER..];
-        put_encoded(
-            self.garbling.zero_labels(),
-            self.offset,
-            first,
-            bits,
-            labels,
-        );
     }
 }

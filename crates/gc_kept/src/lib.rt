@@ -28,6 +28,7 @@ mod label_files;
 mod many;
 mod plain;
 mod ranges;
+mod room;
 mod values;
 mod version;
 mod wires;

@@ -6,7 +6,7 @@ ghost use Rattle.gc_kept.specs.Plain.{ArePlainOutputs, HasPlainBufferFault};
 use crate::bits::{read_bits, write_bits};
 use crate::circuit::KeptCircuit;
 use crate::fault::KeptFault;
-use crate::label_bytes::has_room;
+use crate::room::has_room;
 use gc_circuit::{Memory, ReadFault, plain_eval};
 use std::alloc::Global;
 

@@ -5,7 +5,8 @@ ghost use Rattle.gc_kept.specs.Ranges.{AreRowsAt, HasRangeFault};
 
 use crate::fault::KeptFault;
 use crate::garbling::KeptGarbling;
-use crate::label_bytes::{has_room, write_rows};
+use crate::label_bytes::write_rows;
+use crate::room::has_room;
 use gc_file::sizes::PAIR;
 
 impl KeptGarbling {

@@ -1,6 +1,6 @@
 //! What a garbling has for the wires of a value, for its AND gates, and for its output wires.
 
-ghost use Rattle.std.specs.Prelude.{◌≡◌, ◌+◌, ◌-◌, ◌*◌, ◌^◌, ◌<◌, ◌≤◌, ◌⊎◌, length, map, flat_map, take, sum, IfErr, OnOk, OnErr};
+ghost use Rattle.std.specs.Prelude.{◌≡◌, ◌+◌, ◌-◌, ◌*◌, ◌^◌, ◌<◌, ◌≤◌, ◌⊎◌, length, map, flat_map, take, sum, slice_get, Some, IfErr, OnOk, OnErr};
 ghost use Rattle.gc_netlist.specs.Circuit.{output_wires};
 ghost use Rattle.gc_netlist.specs.Spelling.{bit_number};
 ghost use Rattle.gc_label.specs.Label.{◌⊕◌, bytes_of_label};
@@ -11,14 +11,14 @@ ghost use Rattle.gc_kept.specs.Files.{IsFileAt, HasRoomFault};
 ghost use Rattle.gc_kept.specs.Labels.{AreValueLabels, HasValueLabelsFault, first_output_of, zero_labels_from};
 
 use crate::bits::bit_byte;
-use crate::both::{labels_of, write_both};
+use crate::both::write_both;
 use crate::fault::KeptFault;
 use crate::garbling::KeptGarbling;
-use crate::label_bytes::has_room;
+use crate::room::has_room;
 use gc_circuit::Circuit;
 use gc_file::first_wire;
-use gc_job::BindFault;
-use std::alloc::{Allocator, Global};
+use gc_label::Label;
+use std::alloc::Allocator;
 
 /// The first wire of the output value with this index. The caller ensures that there are at least as many values.
 fn first_output<A: Allocator>(circuit: &Circuit<A>, index: usize) -> u32
@@ -49,12 +49,8 @@ impl KeptGarbling {
         ensures zero_unwritten { OnErr result (zero.new ≡ zero.old) }
         ensures one_unwritten { OnErr result (one.new ≡ one.old) }
     {
-        let circuit = self.circuit.circuit();
-        let Some(width) = circuit.input_widths().get(index as usize) else {
-            return Err(KeptFault::Binding(BindFault::NoSuchValue));
-        };
-        let from = first_wire(circuit, index as usize);
-        self.write_both(from as usize, *width as usize, zero, one)
+        let width = self.circuit().input_width(index)?;
+        self.write_both(self.input_zero_labels(index, width), zero, one)
     }
 
     /// Writes both labels of each wire of the output value with this index, as [`KeptGarbling::input_labels`] does
@@ -72,36 +68,46 @@ impl KeptGarbling {
         ensures zero_unwritten { OnErr result (zero.new ≡ zero.old) }
         ensures one_unwritten { OnErr result (one.new ≡ one.old) }
     {
-        let circuit = self.circuit.circuit();
-        let Some(width) = circuit.output_widths().get(index as usize) else {
-            return Err(KeptFault::Binding(BindFault::NoSuchValue));
-        };
-        let from = first_output(circuit, index as usize);
-        self.write_both(from as usize, *width as usize, zero, one)
+        self.law_garbled();
+        let width = self.circuit().output_width(index)?;
+        let from = first_output(self.circuit().circuit(), index as usize) as usize;
+        self.write_both(self.zero_labels_from(from, width), zero, one)
     }
 
-    /// Writes both labels of `count` wires, from wire `from` on. The caller ensures that there are such wires.
-    fn write_both(
-        &self,
-        from: usize,
-        count: usize,
-        zero: &mut [u8],
-        one: &mut [u8],
-    ) -> Result<(), KeptFault>
+    /// The zero labels of the input value with this index. The caller ensures that this is its width.
+    pub(crate) fn input_zero_labels(&self, index: u32, width: usize) -> &[Label]
+        requires { slice_get self.now.circuit.input_widths index ≡ Some width }
+        ensures labels { result.now
+            ≡ zero_labels_from self.now (first_wire_of self.now.circuit index) width }
+        ensures count { length result.now ≡ width }
+    {
+        self.law_garbled();
+        let from = first_wire(self.circuit().circuit(), index as usize) as usize;
+        self.zero_labels_from(from, width)
+    }
+
+    /// The zero labels of `count` wires, from wire `from` on. The caller ensures that there are such wires.
+    fn zero_labels_from(&self, from: usize, count: usize) -> &[Label]
         requires { from + count ≤ length self.now.garbling.zero_labels }
+        ensures labels { result.now ≡ zero_labels_from self.now from count }
+        ensures count { length result.now ≡ count }
+    {
+        &self.garbling.zero_labels()[from..from + count]
+    }
+
+    /// Writes both labels of each wire that has one of these zero labels.
+    fn write_both(&self, labels: &[Label], zero: &mut [u8], one: &mut [u8]) -> Result<(), KeptFault>
         ensures zero { OnOk result
-            (IsFileAt (flat_map bytes_of_label (zero_labels_from self.now from count))
-            zero.old zero.new) }
-        ensures one { OnOk result
-            (IsFileAt (flat_map bytes_of_label
-            (map (λ label. label ⊕ self.now.offset) (zero_labels_from self.now from count)))
+            (IsFileAt (flat_map bytes_of_label labels.now) zero.old zero.new) }
+        ensures one { OnOk result (IsFileAt
+            (flat_map bytes_of_label (map (λ label. label ⊕ self.now.offset) labels.now))
             one.old one.new) }
         ensures fault { IfErr result (λ fault. (fault ≡ KeptFault.SmallBuffer)
-            × ((length zero.old < 16 * count) ⊎ (length one.old < 16 * count))) }
+            × ((length zero.old < 16 * length labels.now)
+            ⊎ (length one.old < 16 * length labels.now))) }
         ensures zero_unwritten { OnErr result (zero.new ≡ zero.old) }
         ensures one_unwritten { OnErr result (one.new ≡ one.old) }
     {
-        let labels = labels_of(self.garbling.zero_labels(), from, count);
         write_both(labels, self.offset, zero, one)
     }
 

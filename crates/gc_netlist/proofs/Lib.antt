@@ -9,4 +9,5 @@ pub mod CircuitFaults
 pub mod PlaceLemmas
 pub mod CircuitFaultsBack
 pub mod ReadingLaws
+pub mod WrittenLemmas
 pub mod CanonLemmas

@@ -23,20 +23,6 @@ struct FourLabels {
     d: Label,
 }
 
-/// A gate with the labels that it reads.
-#[inline]
-fn read_gate(ready: Prepared) -> ReadGate
-    ensures { result
-        ≡ record { gate = ready.gate; first = ready.labels.0; second = ready.labels.1 } }
-{
-    let (first, second) = ready.labels;
-    ReadGate {
-        gate: ready.gate,
-        first,
-        second,
-    }
-}
-
 impl<'w, 'c, J: Jobs, R: Frame<J>, B: Allocator, A: Allocator, C: Allocator> Round<
     'w,
     'c,
@@ -99,7 +85,12 @@ impl<'w, 'c, J: Jobs, R: Frame<J>, B: Allocator, A: Allocator, C: Allocator> Rou
         if let Some(answer) = self.take(place, gate, a.free) {
             return (answer, None);
         }
-        let labels = self.labels_of_four(read_gate(a), read_gate(b), read_gate(c), read_gate(d));
+        let labels = self.labels_of_four(
+            a.read_gate(),
+            b.read_gate(),
+            c.read_gate(),
+            d.read_gate(),
+        );
         let label = labels.a;
         self.put(place, gate, label);
         (Answer::Made(label), Some(labels))

@@ -5,7 +5,7 @@ ghost use Rattle.gc_job.specs.ActiveLabels.{gates_of};
 
 use crate::jobs::Jobs;
 use gc_gates::{Frame, Words};
-use gc_job::{Job, Wiring};
+use gc_job::{Job, ReadGate, Wiring};
 use gc_label::Label;
 use std::alloc::Allocator;
 
@@ -27,4 +27,23 @@ pub struct Prepared {
     pub gate: u32,
     pub labels: (Label, Label),
     pub free: u64,
+}
+
+impl Prepared {
+    /// The gate with the labels that it reads.
+    #[inline]
+    pub(crate) fn read_gate(&self) -> ReadGate
+        ensures { result ≡ record {
+          gate = self.now.gate;
+          first = self.now.labels.0;
+          second = self.now.labels.1;
+        } }
+    {
+        let (first, second) = self.labels;
+        ReadGate {
+            gate: self.gate,
+            first,
+            second,
+        }
+    }
 }

@@ -111,8 +111,8 @@ impl<'w, 'c, J: Jobs, R: Frame<J>, B: Allocator, A: Allocator, C: Allocator> Rou
         if let Some(answer) = self.take(place, ready.gate, ready.free) {
             return answer;
         }
-        let (a, b) = ready.labels;
-        let label = self.job.active_by(self.wiring, ready.gate, a, b);
+        let read = ready.read_gate();
+        let label = self.job.active_by(self.wiring, &read);
         self.put(place, ready.gate, label);
         Answer::Made(label)
     }

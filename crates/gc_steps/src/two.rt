@@ -48,13 +48,8 @@ impl<'w, 'c, J: Jobs, R: Frame<J>, B: Allocator, A: Allocator, C: Allocator> Rou
         if let Some(answer) = self.take(place, first.gate, first.free) {
             return (answer, None);
         }
-        let (label, other) = self.job.active_two(
-            self.wiring,
-            first.gate,
-            first.labels,
-            second.gate,
-            second.labels,
-        );
+        let (one, other) = (first.read_gate(), second.read_gate());
+        let (label, other) = self.job.active_two(self.wiring, &one, &other);
         self.put(place, first.gate, label);
         (Answer::Made(label), Some(other))
     }

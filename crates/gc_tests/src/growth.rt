@@ -1,8 +1,9 @@
 //! Each growth refused in turn of the calls of circuits, values and garbling. What a call returns otherwise is for its
 //! clauses to say.
 
+use crate::arrays::make_adder;
 use gc_circuit::{
-    Circuit, Memory, ReadFault, ValueFault, fits, plain_eval, read_value, show_value,
+    ArraysFault, Circuit, Memory, ReadFault, ValueFault, fits, plain_eval, read_value, show_value,
 };
 use gc_fixtures::circuits::{FULL_ADDER, many_ands, one_zero_one};
 use gc_fixtures::compare::equal;
@@ -19,6 +20,7 @@ use std::test::Fail;
 #[derive(Clone, Copy, PartialEq, Debug)]
 enum Call {
     Read,
+    Arrays,
     Copy,
     Canon,
     ReadBits,
@@ -31,9 +33,17 @@ enum Call {
     GarbleTwo,
 }
 
+/// The fault of arrays where an allocation is refused.
+const NO_ROOM: ArraysFault = ArraysFault {
+    fault: ReadFault::Memory,
+    gate: None,
+    wire: None,
+};
+
 /// The calls, and how many growths each asks for.
-static GROWTHS: [(Call, u64); 11] = [
+static GROWTHS: [(Call, u64); 12] = [
     (Call::Read, 4),
+    (Call::Arrays, 4),
     (Call::Copy, 3),
     (Call::Canon, 4),
     (Call::ReadBits, 1),
@@ -58,6 +68,7 @@ fn answer<A: Allocator + Copy>(
             Circuit::read(heap, FULL_ADDER.as_bytes()),
             ReadFault::Memory,
         ),
+        Call::Arrays => answer_of(make_adder(heap), NO_ROOM),
         Call::Copy => answer_of(circuit.try_clone(heap), Memory),
         Call::Canon => answer_of(circuit.canon(heap), Memory),
         Call::ReadBits => answer_of(read_value(heap, b"100000000001", 12), ValueFault::Memory),

@@ -176,7 +176,7 @@ fn of_each_size(rt: HostRuntime) -> Result<(), Fail> {
         Shape::Adder,
         Shape::Ands(7),
         Shape::Chains(3, 5),
-        Shape::Mixed(10),
+        Shape::Mixed(5, 9),
     ] {
         in_pieces(rt.alloc(), &circuit_of(rt.alloc(), shape)?)?;
     }
@@ -204,7 +204,7 @@ fn without_and_gates(rt: HostRuntime) -> Result<(), Fail> {
 /// Only the beginning allocates, once.
 #[test]
 fn no_growths_of_pieces(rt: HostRuntime) -> Result<(), Fail> {
-    let circuit = circuit_of(rt.alloc(), Shape::Mixed(10))?;
+    let circuit = circuit_of(rt.alloc(), Shape::Mixed(5, 9))?;
     let heap = Refusing::never(rt.alloc());
     let mut garbler = StreamingGarbler::begin_under_seed(&heap, &circuit, &zero_seed())?;
     let rows = rows_left(rt.alloc(), &circuit, &mut garbler, 3)?;

@@ -1,5 +1,4 @@
 mod Alone
-mod AnswersLemmas
 mod BorrowSteps
 mod BoxSteps
 mod ListLemmas

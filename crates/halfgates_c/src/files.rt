@@ -51,7 +51,7 @@ pub extern "C" fn halfgates_garbled_size(circuit: &mut Handle, version: u32) -> 
     on_held!(circuit, Circuit(circuit) => match version_of(version) {
         Some(version) => circuit.garbled_size(version),
         None => 0,
-    }, else 0)
+    }, wrong 0, null 0)
 }
 
 /// Writes the garbled file of a version.

@@ -61,27 +61,37 @@ impl Handle {
     }
 }
 
-/// What is computed of what a handle holds, where this is of a kind; else another value, or the codes of a null and
-/// of a handle of another kind. The handle is as it was then.
+/// What is computed of what a handle holds, where this is of a kind; else the value for a handle of another kind, or
+/// that for a null, which are their codes where none are given. The handle is as it was then.
 macro_rules! on_held {
-    ($handle:ident, $kind:ident($it:ident) => $of_it:expr) => {{
+    ($handle:ident, $kind:ident($it:ident) => $of_it:expr) => {
+        crate::handle::on_held!(
+            $handle,
+            $kind($it) => $of_it,
+            wrong crate::code::WRONG_HANDLE,
+            null crate::code::NULL_POINTER
+        )
+    };
+    ($handle:ident, $kind:ident($it:ident) => $of_it:expr, wrong $wrong:expr, null $null:expr) => {{
         let borrow = $handle.take();
-        let answer = match borrow.get() {
-            Some(gc_kept::Held::$kind($it)) => $of_it,
-            Some(_) => crate::code::WRONG_HANDLE,
-            None => crate::code::NULL_POINTER,
-        };
-        $handle.put(borrow);
-        answer
-    }};
-    ($handle:ident, $kind:ident($it:ident) => $of_it:expr, else $other:expr) => {{
-        let borrow = $handle.take();
-        let answer = match borrow.get() {
-            Some(gc_kept::Held::$kind($it)) => $of_it,
-            _ => $other,
-        };
-        $handle.put(borrow);
-        answer
+        match borrow.get() {
+            Some(gc_kept::Held::$kind(held)) => {
+                let answer = {
+                    let $it = held;
+                    $of_it
+                };
+                $handle.put(borrow);
+                answer
+            }
+            Some(_) => {
+                $handle.put(borrow);
+                $wrong
+            }
+            None => {
+                $handle.put(borrow);
+                $null
+            }
+        }
     }};
 }
 

@@ -1,11 +1,10 @@
-use Rattle.gc_half.proofs.Names.{◌≡◌, ◌+◌, ◌<◌, ◌++◌, length, sym, refl, ◌∙◌, ap, inr, arith, and_number, and_count, slice_index, EachRead-map, IsSetBefore-more}
+use Rattle.gc_half.proofs.Names.{◌≡◌, ◌+◌, ◌<◌, ◌++◌, length, sym, refl, ◌∙◌, ap, inr, arith, and_number, slice_index, EachRead-map, IsSetBefore-more}
 use Rattle.std.proofs.Common.{length-set}
 use Rattle.gc_netlist.proofs.Tables.{table_step, EachRead-below}
 use Rattle.gc_half.specs.Hash.{hash, numbered_from}
 use Rattle.gc_half.specs.Evaluation.{active_rule}
-use Rattle.gc_half.proofs.AndNumbers.{and_number-below, and_number-end}
 use Rattle.gc_half.proofs.CircuitLaw.{active_local}
-use Rattle.gc_half.proofs.PieceLemmas.{active_of-later, and_number-next, counted}
+use Rattle.gc_half.proofs.PieceLemmas.{active_of-later, and_number-next, counted, ends-before, ends-last}
 use Rattle.gc_half.proofs.StreamingLemmas.{ands-few}
 use Rattle.gc_half.proofs.streaming_evaluator.evaluate_piece.Goals as goal
 
@@ -91,16 +90,9 @@ loop-i-preserved g c =
 
 pub returns-in_default-clause-ends : goal.returns-in_default-clause-ends
 returns-in_default-clause-ends g c =
-    let netlist = c.args.circuit.now in
-    let i = c.loop-i.i in
-    let none = c.in_default.ensures in
-    let below = and_number-below netlist i c.gate-gate.result c.gate-gate.ensures none.0 in
-    record {
-      later = omega (arith, c.loop-i.auto.i);
-      gates = omega (arith, c.gates-i-end.ensures.count);
-      number = omega (arith, c.loop-i.invariant.left, none.1, below);
-      whole = λ all. absurd (omega (arith, all, below));
-    }
+    ends-before c.args.circuit.now _ _ _ _ c.loop-i.invariant.left c.gate-gate.result
+    c.gate-gate.ensures c.in_default.ensures.0 c.in_default.ensures.1
+    (omega (arith, c.loop-i.auto.i))
 
 pub returns-clause-evaluated : goal.returns-clause-evaluated
 returns-clause-evaluated g c =
@@ -110,17 +102,6 @@ returns-clause-evaluated g c =
 
 pub returns-clause-ends : goal.returns-clause-ends
 returns-clause-ends g c =
-    let netlist = c.args.circuit.now in
-    let ends : c.loop-i.i ≡ length netlist.gates =
-    omega (arith, c.requires.gates, c.gates-i-end.ensures.count) in
-    let all : c.gates.result ≡ length netlist.gates = c.gates.ensures.count in
-    let number : and_number netlist c.gates.result ≡ and_count netlist =
-    ap (and_number netlist) all ∙ and_number-end netlist in
-    let passed : and_number netlist c.loop-i.i ≡ and_count netlist =
-    ap (and_number netlist) ends ∙ and_number-end netlist in
-    record {
-      later = omega (arith, c.requires.gates, all);
-      gates = omega (arith, all);
-      number = omega (arith, c.loop-i.invariant.left, number, passed, c.requires.room);
-      whole = λ same. all;
-    }
+    ends-last c.args.circuit.now _ _ _ _ c.loop-i.invariant.left
+    (omega (arith, c.requires.gates, c.gates-i-end.ensures.count)) c.requires.gates _
+    c.gates.ensures.count

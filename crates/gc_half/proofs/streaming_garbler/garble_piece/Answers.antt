@@ -1,10 +1,14 @@
-use Rattle.gc_half.proofs.Names.{◌≡◌, ◌<◌, length, ap, refl, ◌∙◌, arith, and_number, and_count, IsSetBefore, EachRead-map}
-use Rattle.gc_half.proofs.AndNumbers.{and_number-below, and_number-end, and_number-le}
-use Rattle.gc_half.proofs.PieceLemmas.{and_number-next, piece-count, piece-next}
+use Rattle.gc_half.proofs.Names.{◌≡◌, ◌<◌, length, refl, ◌∙◌, arith, IsSetBefore, EachRead-map}
+use Rattle.gc_half.proofs.AndNumbers.{and_number-le}
+use Rattle.gc_half.proofs.PieceLemmas.{and_number-next, ends-before, ends-last, piece-count, piece-next}
 use Rattle.gc_half.proofs.streaming_garbler.garble_piece.Goals as goal
 
 pub loop-i-init : goal.loop-i-init
-loop-i-init g c = record { garbled = λ r first given before is. is; left = refl }
+loop-i-init g c = record {
+  garbled = λ r first given before is. is;
+  rest = λ i past. refl;
+  left = refl;
+}
 
 pub step-requires : goal.step-requires
 step-requires g c =
@@ -55,6 +59,8 @@ loop-i-preserved g c =
           piece-next r first netlist given before c.law_lawful.ensures i c.gate-gate.result at
           _ _ _ _ (c.loop-i.invariant.garbled r first given before began) step.offset step.numbered
           step.labels step.rows step.counted step.waiting;
+      rest = λ k past.
+          step.rest k past ∙ c.loop-i.invariant.rest k (omega (arith, past, step.counted));
       left = omega (
         arith,
         c.loop-i.invariant.left,
@@ -65,16 +71,9 @@ loop-i-preserved g c =
 
 pub returns-in_default-clause-ends : goal.returns-in_default-clause-ends
 returns-in_default-clause-ends g c =
-    let netlist = c.args.circuit.now in
-    let i = c.loop-i.i in
-    let none = c.in_default.ensures in
-    let below = and_number-below netlist i c.gate-gate.result c.gate-gate.ensures none.0 in
-    record {
-      later = omega (arith, c.loop-i.auto.i);
-      gates = omega (arith, c.gates-i-end.ensures.count);
-      number = omega (arith, c.loop-i.invariant.left, none.1, below);
-      whole = λ all. absurd (omega (arith, all, below));
-    }
+    ends-before c.args.circuit.now _ _ _ _ c.loop-i.invariant.left c.gate-gate.result
+    c.gate-gate.ensures c.in_default.ensures.0 c.in_default.ensures.1
+    (omega (arith, c.loop-i.auto.i))
 
 pub returns-clause-garbled : goal.returns-clause-garbled
 returns-clause-garbled g c =
@@ -84,17 +83,6 @@ returns-clause-garbled g c =
 
 pub returns-clause-ends : goal.returns-clause-ends
 returns-clause-ends g c =
-    let netlist = c.args.circuit.now in
-    let ends : c.loop-i.i ≡ length netlist.gates =
-    omega (arith, c.requires.gates, c.gates-i-end.ensures.count) in
-    let all : c.gates.result ≡ length netlist.gates = c.gates.ensures.count in
-    let number : and_number netlist c.gates.result ≡ and_count netlist =
-    ap (and_number netlist) all ∙ and_number-end netlist in
-    let passed : and_number netlist c.loop-i.i ≡ and_count netlist =
-    ap (and_number netlist) ends ∙ and_number-end netlist in
-    record {
-      later = omega (arith, c.requires.gates, all);
-      gates = omega (arith, all);
-      number = omega (arith, c.loop-i.invariant.left, number, passed);
-      whole = λ same. all;
-    }
+    ends-last c.args.circuit.now _ _ _ _ c.loop-i.invariant.left
+    (omega (arith, c.requires.gates, c.gates-i-end.ensures.count)) c.requires.gates _
+    c.gates.ensures.count

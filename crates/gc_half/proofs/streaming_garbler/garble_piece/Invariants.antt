@@ -1,5 +1,6 @@
 use Rattle.gc_half.proofs.Names.{◌≡◌, ◌+◌, length, and_number}
 use Rattle.gc_half.specs.Pieces.{GarblesOn}
+use Rattle.gc_half.specs.Streaming.{KeepsFrom}
 use Rattle.gc_half.specs.Waiting.{rows_made}
 use Rattle.gc_half.proofs.streaming_garbler.garble_piece.Given as goal
 
@@ -7,5 +8,6 @@ abbrev pub invariant-loop-i : goal.invariant-loop-i
 invariant-loop-i g l = record {
   garbled : GarblesOn l.circuit l.fn.from l.i l.fn.table (rows_made l.fn.table l.fn.rows) l.table
       (rows_made l.table l.rows);
+  rest : KeepsFrom (l.table.made + length l.table.waiting) l.fn.rows l.rows;
   left : l.left + and_number l.circuit l.i ≡ length l.fn.rows + and_number l.circuit l.fn.from;
 }

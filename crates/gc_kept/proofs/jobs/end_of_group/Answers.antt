@@ -6,15 +6,12 @@ pub loop-end-preserved : goal.loop-end-preserved
 loop-end-preserved c =
     let l = c.loop-end in
     let jobs = c.args.jobs.now in
-    let here = c.index-jobs-first.result in
-    let there = c.index-jobs-end.result in
     record {
       some = omega (arith, l.invariant.some);
       within = omega (arith, c.loop-end-test.true);
-      one = one_more (map (λ j. j.now) jobs) c.args.first l.end here.now there.now
-          (job_at jobs (λ j. j.now) c.args.first here (omega (arith, c.requires))
-          c.index-jobs-first.is)
-          (job_at jobs (λ j. j.now) l.end there
+      one = one_more (map (λ j. j.now) jobs) c.args.first l.end _ _
+          (job_at jobs (λ j. j.now) c.args.first _ (omega (arith, c.requires)) c.index-jobs-first.is)
+          (job_at jobs (λ j. j.now) l.end _
           (omega (arith, c.loop-end-test.true, c.min-last.ensures)) c.index-jobs-end.is)
           (c.is_beside.ensures.0 c.if-is_beside.true) l.invariant.one;
     }

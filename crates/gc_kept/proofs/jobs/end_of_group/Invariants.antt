@@ -1,12 +1,12 @@
 use Rattle.std.proofs.Common.{◌-◌, ◌<◌, ◌≤◌, map}
-use Rattle.gc_kept.specs.Jobs.{AreOnOneCircuit}
+use Rattle.gc_job.specs.Jobs.{AreBeside}
 use Rattle.gc_kept.proofs.jobs.end_of_group.Given as goal
 
 abbrev pub invariant-loop-end : goal.invariant-loop-end
 invariant-loop-end l = record {
   some : l.first < l.end;
   within : l.end ≤ l.last;
-  one : AreOnOneCircuit (map (λ j. j.now) l.jobs) l.first l.end;
+  one : AreBeside (map (λ j. j.now) l.jobs) l.first l.end;
 }
 
 abbrev pub decreases-loop-end : goal.decreases-loop-end

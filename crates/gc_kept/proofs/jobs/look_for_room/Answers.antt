@@ -10,7 +10,7 @@ returns-then-room-outputs-clause-fault c =
     let at = job_at jobs (λ j. j.now) l.job-index job (omega arith) c.job-item.is in
     let less = outputs_within (map (λ j. j.now) jobs) l.job-index job.now at in (
       refl,
-      omega (arith, l.invariant, less, c.if-room-outputs.true, c.outputs-outputs.ensures),
+      omega (arith, l.invariant, less, c.if-room-outputs.true, c.outputs-outputs.ensures.outputs),
     )
 
 pub loop-job-preserved : goal.loop-job-preserved
@@ -20,4 +20,4 @@ loop-job-preserved c =
     let job = c.job-item.result in
     let at = job_at jobs (λ j. j.now) l.job-index job (omega arith) c.job-item.is in
     let next = outputs_next (map (λ j. j.now) jobs) l.job-index job.now at in
-    omega (arith, l.invariant, next, c.if-room-outputs.false, c.outputs-outputs.ensures)
+    omega (arith, l.invariant, next, c.if-room-outputs.false, c.outputs-outputs.ensures.outputs)

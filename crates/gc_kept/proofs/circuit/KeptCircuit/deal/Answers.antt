@@ -1,76 +1,107 @@
-use Rattle.std.proofs.Common.{◌≡◌, ◌∙◌, ◌+◌, ◌*◌, length, map, refl, sym, ap, arith}
-use Rattle.std.proofs.lemmas.Bool.Decides.{nat_tests}
+use Rattle.std.proofs.Common.{◌≡◌, ◌∙◌, length, take, ap, arith}
+use Rattle.std.specs.List.{slice_index, sum}
+use Rattle.std.proofs.lemmas.List.FromFn.{length-map-range_with_len}
 use Rattle.std.proofs.lemmas.Result.{err_from_is_err_and}
-use Rattle.gc_netlist.specs.Spelling.{bit_number}
-use Rattle.gc_audit.proofs.LabelsLemmas.{found_at}
-use Rattle.gc_file.specs.LabelFile.{label_file, label_parts_of}
-use Rattle.gc_kept.specs.Files.{no_value, of_bits, of_file}
-use Rattle.gc_kept.proofs.OutcomeLemmas.{OnOk-both, IfErr-map}
-use Rattle.gc_file.proofs.DealLemmas.{length-label_file}
-use Rattle.gc_kept.proofs.RoomLemmas.{lacks_room}
+use Rattle.gc_label.specs.Seed.{offset_of, input_label_of}
+use Rattle.gc_file.proofs.DealLemmas.{first_wire-room, length-encoded_with}
+use Rattle.gc_netlist.specs.Circuit.{Netlist}
+use Rattle.gc_kept.specs.declared.fault.KeptFault.TheVariants.{Memory}
+use Rattle.gc_kept.specs.Files.{of_file}
+use Rattle.gc_kept.proofs.LabelFileLemmas.{dealt_under, length-dealt}
 use Rattle.gc_kept.proofs.circuit.KeptCircuit.deal.Goals as goal
-
-pub returns-in_default-clause-fault : goal.returns-in_default-clause-fault
-returns-in_default-clause-fault c =
-    let h = c.in_default.ensures.lookup.0 in
-    let n = ap length (rw c.circuit-circuit.ensures.same at c.input_widths.ensures) in
-    no_value (grind (arith, nat_tests, h, n))
 
 pub returns-in_err-bits-clause-fault : goal.returns-in_err-bits-clause-fault
 returns-in_err-bits-clause-fault c =
-    let found = c.in-Some.ensures.lookup in
     let p = err_from_is_err_and c.from_residual.result c.from_residual.ensures.1 in
-    rw (p.1, p.2) (of_bits c.in-Some.width.now c.in_err-bits.field-0.0
-    (found_at _ _ c.args.index _ _ _ found.0 found.1
-    (rw c.circuit-circuit.ensures.same at c.input_widths.ensures) refl refl)
-    c.in_err-bits.ensures.fault)
+    rw (p.1, p.2) (c.in_err-bits.ensures.fault (offset_of c.args.seed.now)
+    (input_label_of c.args.seed.now))
 
-pub returns-in_err-look_for_room-clause-fault : goal.returns-in_err-look_for_room-clause-fault
-returns-in_err-look_for_room-clause-fault c =
-    let a = c.args in
+pub zero_labels-requires : goal.zero_labels-requires
+zero_labels-requires c =
     let bits = c.in_ok-bits.bits.items in
-    let found = c.in-Some.ensures.lookup in
-    let p = err_from_is_err_and c.from_residual-in_err-look_for_room.result
-    c.from_residual-in_err-look_for_room.ensures.1 in
-    let file = label_file (label_parts_of a.self.now a.seed.now a.index bits) in
-    let size : 16 + 16 * c.in-Some.width.now ≡ length file =
     omega (
       arith,
-      length-label_file a.self.now a.seed.now a.index bits,
-      c.in_ok-bits.ensures.count,
-    ) in
-    rw (p.1, p.2) (of_file bits c.in_err-look_for_room.field-0.0 c.in_ok-bits.ensures.bytes
-    (found_at _ _ a.index _ _ _ found.0 found.1
-    (rw c.circuit-circuit.ensures.same at c.input_widths.ensures) refl
-    c.in_ok-bits.ensures.count)
-    (lacks_room file _ (length a.buffer.now) _ c.in_err-look_for_room.field-0.0 size
-    c.in_err-look_for_room.ensures.fault c.in_err-look_for_room.ensures.written))
+      c.first_wire-first.ensures,
+      c.len.ensures,
+      ap (λ (n : Netlist). sum (take c.args.index n.input_widths)) c.circuit.ensures.same,
+      first_wire-room c.args.self.now c.circuit.ensures.lawful c.args.index (length bits)
+          c.in_ok-bits.ensures.width,
+    )
 
-pub write_dealt-requires : goal.write_dealt-requires
-write_dealt-requires c =
-    let found = c.in-Some.ensures.lookup in
-    found_at _ _ c.args.index _ _ _ found.0 found.1
-    (rw c.circuit-circuit.ensures.same at c.input_widths.ensures) refl
-    (ap length c.deref.ensures.value ∙ c.in_ok-bits.ensures.count)
+pub returns-in_err-zero_labels-clause-fault : goal.returns-in_err-zero_labels-clause-fault
+returns-in_err-zero_labels-clause-fault c =
+    let p = err_from_is_err_and c.from_residual-in_err-zero_labels.result
+    c.from_residual-in_err-zero_labels.ensures.1 in
+    rw (p.1, p.2) (of_file c.in_ok-bits.bits.items Memory c.in_ok-bits.ensures.bytes
+    c.in_ok-bits.ensures.width tt)
+
+pub returns-in_err-labels-clause-fault : goal.returns-in_err-labels-clause-fault
+returns-in_err-labels-clause-fault c =
+    let p = err_from_is_err_and c.from_residual-in_err-labels.result
+    c.from_residual-in_err-labels.ensures.1 in
+    rw (p.1, p.2) (of_file c.in_ok-bits.bits.items Memory c.in_ok-bits.ensures.bytes
+    c.in_ok-bits.ensures.width tt)
+
+pub encoded-requires : goal.encoded-requires
+encoded-requires c =
+    let zero_label = input_label_of c.from_bytes-seed.result in
+    omega (
+      arith,
+      ap length c.deref.ensures.value,
+      ap length c.in_ok-zero_labels.ensures,
+      length-map-range_with_len zero_label c.first_wire-first.result c.len.result,
+      c.len.ensures,
+      ap length c.deref-2.ensures.value,
+    )
+
+pub write_file-requires-clause-room : goal.write_file-requires-clause-room
+write_file-requires-clause-room c =
+    omega (
+      arith,
+      c.in_ok-bits.ensures.room,
+      ap length c.deref-3.ensures.value,
+      ap length c.in_ok-labels.ensures,
+      length-encoded_with c.offset.result (slice_index c.deref.result.now) 0 c.deref-2.result.now,
+      ap length c.deref-2.ensures.value,
+    )
+
+pub write_file-requires-clause-few : goal.write_file-requires-clause-few
+write_file-requires-clause-few c =
+    omega (
+      arith,
+      c.in_ok-bits.ensures.few,
+      ap length c.deref-3.ensures.value,
+      ap length c.in_ok-labels.ensures,
+      length-encoded_with c.offset.result (slice_index c.deref.result.now) 0 c.deref-2.result.now,
+      ap length c.deref-2.ensures.value,
+    )
 
 pub returns-clause-ok : goal.returns-clause-ok
 returns-clause-ok c =
-    let found = c.in-Some.ensures.lookup in
-    OnOk-both c.write_dealt.result (λ file count. record {
-      bits = c.deref.result.now;
-      bytes_are = c.in_ok-bits.ensures.bytes ∙ ap (map bit_number) (sym c.deref.ensures.value);
-      width = found_at _ _ c.args.index _ _ _ found.0 found.1
-          (rw c.circuit-circuit.ensures.same at c.input_widths.ensures) refl
-          (ap length c.deref.ensures.value ∙ c.in_ok-bits.ensures.count);
-      file = file;
-      count = count;
-    }) c.write_dealt.ensures.ok c.write_dealt.ensures.written
-
-pub returns-clause-fault : goal.returns-clause-fault
-returns-clause-fault c =
-    let found = c.in-Some.ensures.lookup in
-    IfErr-map c.write_dealt.result (λ fault is. of_file c.deref.result.now fault
-    (c.in_ok-bits.ensures.bytes ∙ ap (map bit_number) (sym c.deref.ensures.value))
-    (found_at _ _ c.args.index _ _ _ found.0 found.1
-    (rw c.circuit-circuit.ensures.same at c.input_widths.ensures) refl
-    (ap length c.deref.ensures.value ∙ c.in_ok-bits.ensures.count)) is) c.write_dealt.ensures.fault
+    let circuit = c.args.self.now in
+    let index = c.args.index in
+    let bits = c.in_ok-bits.bits.items in
+    let seed = c.args.seed.now in
+    let made = c.from_bytes-seed.result in
+    let first = c.first_wire-first.result in
+    let long : c.len.result ≡ length bits = omega (arith, c.len.ensures) in
+    let zeros = c.deref.ensures.value ∙ (rw long at c.in_ok-zero_labels.ensures) in
+    let labels = c.deref-3.ensures.value
+    ∙ (rw c.deref-2.ensures.value at c.in_ok-labels.ensures)
+    ∙ dealt_under c.offset.result made c.deref.result.now first bits zeros in
+    let from = c.first_wire-first.ensures
+    ∙ ap (λ (n : Netlist). sum (take index n.input_widths)) c.circuit.ensures.same in
+    record {
+      bits = bits;
+      bytes_are = c.in_ok-bits.ensures.bytes;
+      width = c.in_ok-bits.ensures.width;
+      file = (rw (labels, c.offset.ensures, c.from_bytes-seed.ensures, from)
+          at c.write_file.ensures.file);
+      count = omega (
+        arith,
+        c.write_file.ensures.size,
+        ap length labels,
+        length-encoded_with c.offset.result (input_label_of made) first bits,
+        length-dealt circuit (offset_of seed) (input_label_of seed) index bits,
+      );
+    }

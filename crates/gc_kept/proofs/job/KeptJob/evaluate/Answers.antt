@@ -1,5 +1,7 @@
 use Rattle.std.proofs.Common.{ap, length, arith}
 use Rattle.std.proofs.lemmas.List.{length-take-le}
+use Rattle.gc_netlist.specs.Circuit.{output_wires}
+use Rattle.gc_job.specs.Job.{JobParts}
 use Rattle.gc_kept.proofs.job.KeptJob.evaluate.Goals as goal
 
 pub write_bits-requires : goal.write_bits-requires
@@ -9,7 +11,8 @@ write_bits-requires c =
     omega (
       arith,
       c.in_ok-found.ensures.count,
-      c.outputs-outputs.ensures,
+      ap (λ (j : JobParts). output_wires j.circuit) c.borrowed.ensures,
+      c.outputs-outputs.ensures.outputs,
       room,
       ap length c.deref.ensures.value,
     )

@@ -3,10 +3,10 @@ use Rattle.gc_steps.proofs.RunLemmas.{made_answer}
 use Rattle.gc_steps.proofs.round.Round.make.Goals as goal
 
 pub put-requires-clause-right : goal.put-requires-clause-right
-put-requires-clause-right g c = c.active_by-label.ensures ∙ c.requires.ready.labels
+put-requires-clause-right g c = (rw c.read_gate-read.ensures at c.active_by-label.ensures) ∙ c.requires.ready.labels
 
 pub returns-clause-answer : goal.returns-clause-answer
 returns-clause-answer g c =
     made_answer _ _ _ _ _ g.R.Frame.layout c.args.self.now.job.now _ _ c.requires.empty.0
     c.in_default.ensures.none c.put.ensures.view
-    (c.active_by-label.ensures ∙ c.requires.ready.labels)
+    ((rw c.read_gate-read.ensures at c.active_by-label.ensures) ∙ c.requires.ready.labels)

@@ -1,0 +1,6 @@
+use Rattle.std.proofs.Common.{◌≡◌, flat_map, map, take}
+use Rattle.gc_kept.proofs.jobs.joined.Given as goal
+
+abbrev pub invariant-loop-list : goal.invariant-loop-list
+invariant-loop-list l =
+    l.bits.items ≡ flat_map (λ list. list) (take l.list-index (map (λ list. list.items) l.lists))

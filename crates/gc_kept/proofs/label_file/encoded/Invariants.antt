@@ -1,0 +1,8 @@
+use Rattle.std.proofs.Common.{◌≡◌, take}
+use Rattle.std.specs.List.{slice_index}
+use Rattle.gc_file.specs.LabelFile.{encoded_with}
+use Rattle.gc_kept.proofs.label_file.encoded.Given as goal
+
+abbrev pub invariant-loop-i : goal.invariant-loop-i
+invariant-loop-i l =
+    l.labels.items ≡ encoded_with l.offset (slice_index l.zero_labels) 0 (take l.i l.bits)
