@@ -1,5 +1,5 @@
 use Rattle.gc_command.proofs.JobsLemmas.{parted}
-use Rattle.gc_explain.proofs.output.fault_of_line.Goals as goal
+use Rattle.gc_explain.proofs.output.Ended.fault_of_line.Goals as goal
 
 pub returns : goal.returns
 returns g c = (

@@ -1,6 +1,6 @@
 use Rattle.std.proofs.Common.{◌≡◌, [], drop, arith}
 use Rattle.std.proofs.lemmas.List.{append-nil, drop_all}
-use Rattle.gc_explain.proofs.output.labels_again.Goals as goal
+use Rattle.gc_explain.proofs.output.Ended.labels_again.Goals as goal
 
 pub returns : goal.returns
 returns g c =
