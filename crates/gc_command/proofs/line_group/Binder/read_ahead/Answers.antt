@@ -1,6 +1,6 @@
 use Rattle.gc_command.proofs.JobsNames.{IfOk-weaker, IfErr-weaker}
 use Rattle.gc_command.proofs.LineLemmas.{made-named, making-fault}
-use Rattle.gc_command.proofs.line_group.read_ahead.Goals as goal
+use Rattle.gc_command.proofs.line_group.Binder.read_ahead.Goals as goal
 
 pub returns-clause-named : goal.returns-clause-named
 returns-clause-named g c = IfOk-weaker c.jobs_of_files.result _ _

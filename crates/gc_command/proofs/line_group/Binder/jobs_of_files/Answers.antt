@@ -1,7 +1,7 @@
 use Rattle.gc_command.proofs.JobsNames.{◌≡◌, [], ◌∷◌, inl, inr, drop, length, suc, ◌∙◌, sym, ap, arith, append_assoc, append-nil, err_from_is_err_and}
 use Rattle.std.proofs.lemmas.List.{length-append, nil_from_length}
 use Rattle.gc_command.proofs.LineLemmas.{next-left, no-job-fault, trailer-at}
-use Rattle.gc_command.proofs.line_group.jobs_of_files.Goals as goal
+use Rattle.gc_command.proofs.line_group.Binder.jobs_of_files.Goals as goal
 
 pub job_of_files-requires-clause-trailer : goal.job_of_files-requires-clause-trailer
 job_of_files-requires-clause-trailer g c =

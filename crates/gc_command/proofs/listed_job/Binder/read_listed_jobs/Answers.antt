@@ -1,7 +1,7 @@
 use Rattle.gc_command.proofs.JobsNames.{◌==◌, fun_ext, slice_split, IfOk-weaker, IfErr-weaker}
 use Rattle.gc_command.proofs.JobListLemmas.{all_have_words}
 use Rattle.gc_command.proofs.JobsLemmas.{list-fault}
-use Rattle.gc_command.proofs.listed_job.read_listed_jobs.Goals as goal
+use Rattle.gc_command.proofs.listed_job.Binder.read_listed_jobs.Goals as goal
 
 pub read_jobs-requires-clause-words : goal.read_jobs-requires-clause-words
 read_jobs-requires-clause-words g c =

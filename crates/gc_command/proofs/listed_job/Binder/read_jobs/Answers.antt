@@ -3,7 +3,7 @@ use Rattle.std.proofs.lemmas.List.{drop-drop, length-append}
 use Rattle.std.proofs.lemmas.List.Elements.{All-drop, All-take}
 use Rattle.gc_command.proofs.JobsLemmas.{named_count}
 use Rattle.gc_command.proofs.LineLemmas.{bad-later, bad-part, lines-among, names-part, words-part}
-use Rattle.gc_command.proofs.listed_job.read_jobs.Goals as goal
+use Rattle.gc_command.proofs.listed_job.Binder.read_jobs.Goals as goal
 
 pub read_group-requires-clause-words : goal.read_group-requires-clause-words
 read_group-requires-clause-words g c =

@@ -2,12 +2,12 @@ use Rattle.gc_command.proofs.Names.{◌≡◌, arith, common_steps, err_from_is_
 use Rattle.gc_file.proofs.LabelFileLemmas.{not_both, one_label_file}
 use Rattle.gc_command.proofs.FaultLemmas.{file-memory}
 use Rattle.gc_command.proofs.OwnFilesLemmas.{own-label-file}
-use Rattle.gc_command.proofs.own_files.own_label_file.Goals as goal
+use Rattle.gc_command.proofs.own_files.Garbler.own_label_file.Goals as goal
 
 pub returns-in_err-read_labels-clause-fault : goal.returns-in_err-read_labels-clause-fault
 returns-in_err-read_labels-clause-fault g c =
     let a = c.args in
-    let made : c.bytes.result.now ≡ label_file (label_parts_of a.circuit.now a.seed.now a.index
+    let made : c.bytes.result.now ≡ label_file (label_parts_of a.self.now.circuit.now a.self.now.seed.now a.index
     a.bits.now) =
     grind (arith, common_steps) in
     let p = err_from_is_err_and c.from_residual-in_err-read_labels.result
@@ -19,7 +19,7 @@ returns-in_err-read_labels-clause-fault g c =
 pub returns-clause-parts : goal.returns-clause-parts
 returns-clause-parts g c =
     let a = c.args in
-    let made : c.bytes.result.now ≡ label_file (label_parts_of a.circuit.now a.seed.now a.index
+    let made : c.bytes.result.now ≡ label_file (label_parts_of a.self.now.circuit.now a.self.now.seed.now a.index
     a.bits.now) =
     grind (arith, common_steps) in
     one_label_file _ _ _ c.in_ok-read_labels.ensures

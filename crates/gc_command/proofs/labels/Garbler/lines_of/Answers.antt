@@ -2,14 +2,14 @@ use Rattle.std.proofs.Common.{◌≡◌, ◌∙◌, length, refl, sym, ap}
 use Rattle.std.proofs.lemmas.List.Folds.{flat_map-map}
 use Rattle.gc_netlist.proofs.Tables.{length-table}
 use Rattle.gc_command.specs.Labels.{WiresLeft}
-use Rattle.gc_command.proofs.labels.lines_of.Goals as goal
+use Rattle.gc_command.proofs.labels.Garbler.lines_of.Goals as goal
 
 pub invariant_of-result : goal.invariant_of-result
 invariant_of-result g c =
-    let as_many : c.in-Ok-new.wires.wires ≡ c.args.circuit.now.wires =
+    let as_many : c.in-Ok-new.wires.wires ≡ c.args.self.now.circuit.now.wires =
     ap (λ (w : WiresLeft). w.wires) c.in-Ok-new.ensures in (
       ap length c.into_zero_labels-zero_labels.ensures ∙ c.in-Ok.ensures.wires ∙ sym as_many,
-      length-table _ c.args.circuit.now.wires _ c.in-Ok-wire_bits.ensures.in_order ∙ sym as_many,
+      length-table _ c.args.self.now.circuit.now.wires _ c.in-Ok-wire_bits.ensures.in_order ∙ sym as_many,
     )
 
 pub returns-clause-lines : goal.returns-clause-lines

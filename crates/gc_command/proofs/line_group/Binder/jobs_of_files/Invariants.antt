@@ -1,7 +1,7 @@
 use Rattle.gc_command.proofs.JobsNames.{◌≡◌, ◌++◌, List, drop, length, JobParts, Fault}
 use Rattle.std.specs.Vec.Iter.{into_iter_items, into_iter_len}
 use Rattle.gc_command.specs.LineFiles.{MakeJobs, FirstMakeNoJob}
-use Rattle.gc_command.proofs.line_group.jobs_of_files.Given as goal
+use Rattle.gc_command.proofs.line_group.Binder.jobs_of_files.Given as goal
 
 -- What the files that are left make, all of them make.
 abbrev pub invariant-loop-files : goal.invariant-loop-files
@@ -13,8 +13,8 @@ invariant-loop-files g l =
       is_finite : (goal.iterator-loop-files g).is_finite l.files-iterator;
       left : rest ≡ into_iter_items l.files-iterator;
       count : into_iter_len l.files-iterator ≡ length (into_iter_items l.files-iterator);
-      made : (left : List JobParts) → MakeJobs l.circuit rest left
-          → MakeJobs l.circuit all (l.jobs.items ++ left);
-      faults : (fault : Fault) → FirstMakeNoJob l.circuit rest fault
-          → FirstMakeNoJob l.circuit all fault;
+      made : (left : List JobParts) → MakeJobs l.self.circuit.now rest left
+          → MakeJobs l.self.circuit.now all (l.jobs.items ++ left);
+      faults : (fault : Fault) → FirstMakeNoJob l.self.circuit.now rest fault
+          → FirstMakeNoJob l.self.circuit.now all fault;
     }

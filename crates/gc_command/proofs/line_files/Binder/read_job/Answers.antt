@@ -2,7 +2,7 @@ use Rattle.gc_command.proofs.JobsNames.{fun_ext, err_from_is_err_and}
 use Rattle.gc_command.proofs.JobsLemmas.{parted, labels-named}
 use Rattle.gc_command.proofs.LineLemmas.{garbled-fault, binding-fault}
 use Rattle.gc_command.specs.declared.fault.Fault.TheVariants.{Binding}
-use Rattle.gc_command.proofs.line_files.read_job.Goals as goal
+use Rattle.gc_command.proofs.line_files.Binder.read_job.Goals as goal
 
 pub returns-in_err-garbled-clause-fault : goal.returns-in_err-garbled-clause-fault
 returns-in_err-garbled-clause-fault g c =
@@ -10,7 +10,7 @@ returns-in_err-garbled-clause-fault g c =
     c.from_residual-in_err-garbled.ensures.1 in
     let names = parted c.deref.ensures.value c.in-Some.ensures.cases.0 (λ word. word.now)
     c.in_ok-words.ensures in
-    rw (p.1, p.2, names) (garbled-fault (g.F.Files.bytes c.args.files.now) _ c.args.circuit.now _ _ _
+    rw (p.1, p.2, names) (garbled-fault (g.F.Files.bytes c.args.files.now) _ c.args.self.now.circuit.now _ _ _
     c.in_err-garbled.ensures.fault)
 
 pub returns-in_err-labels-clause-fault : goal.returns-in_err-labels-clause-fault
@@ -19,7 +19,7 @@ returns-in_err-labels-clause-fault g c =
     c.from_residual-in_err-labels.ensures.1 in
     let names = parted c.deref.ensures.value c.in-Some.ensures.cases.0 (λ word. word.now)
     c.in_ok-words.ensures in
-    rw (p.1, p.2) (labels-named (g.F.Files.bytes c.args.files.now) _ c.args.circuit.now
+    rw (p.1, p.2) (labels-named (g.F.Files.bytes c.args.files.now) _ c.args.self.now.circuit.now
     c.in_ok-garbled.garbled names c.in_ok-garbled.ensures.garbled _
     (rw (fun_ext c.read_garbled_file.ensures.same, c.in_ok-garbled.ensures.counted)
     at c.in_err-labels.ensures.fault))
@@ -31,7 +31,7 @@ returns-in_err-bind_by_digest-clause-fault g c =
     let names = parted c.deref.ensures.value c.in-Some.ensures.cases.0 (λ word. word.now)
     c.in_ok-words.ensures in
     rw (p.1, p.2, names) (binding-fault (g.F.Files.bytes c.args.files.now) (λ name. ⊥)
-    c.args.circuit.now _ _ c.in_ok-garbled.garbled _
+    c.args.self.now.circuit.now _ _ c.in_ok-garbled.garbled _
     (Binding c.in_err-bind_by_digest.field-0.0)
     c.in_ok-garbled.ensures.garbled
     (rw (fun_ext c.read_garbled_file.ensures.same) at c.in_ok-labels.ensures.labels)

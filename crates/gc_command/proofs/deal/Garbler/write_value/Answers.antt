@@ -1,5 +1,5 @@
 use Rattle.gc_command.proofs.Names.{IfSome_then, IfOk-weaker}
-use Rattle.gc_command.proofs.deal.write_value.Goals as goal
+use Rattle.gc_command.proofs.deal.Garbler.write_value.Goals as goal
 
 pub returns-clause-written : goal.returns-clause-written
 returns-clause-written g c =

@@ -1,5 +1,5 @@
 use Rattle.gc_command.proofs.JobsNames.{◌≡◌, ◌≤◌, ◌-◌, ℕ, ◌++◌, List, drop, map, length, tokens, JobParts, FailedFiles, HasFailed, Fault, NameJobs, FirstBadJob}
-use Rattle.gc_command.proofs.listed_job.read_jobs.Given as goal
+use Rattle.gc_command.proofs.listed_job.Binder.read_jobs.Given as goal
 
 -- What the lines that are left name, all of them name.
 abbrev pub invariant-loop-alloc : goal.invariant-loop-alloc
@@ -10,11 +10,11 @@ invariant-loop-alloc g l =
     let rest = drop (length l.jobs.items) all in
     record {
       most : length l.jobs.items ≤ length l.lines;
-      named : (left : List JobParts) → NameJobs bytes l.circuit rest left
-          → NameJobs bytes l.circuit all (l.jobs.items ++ left);
+      named : (left : List JobParts) → NameJobs bytes l.self.circuit.now rest left
+          → NameJobs bytes l.self.circuit.now all (l.jobs.items ++ left);
       faults : (failed : FailedFiles) (fault : Fault)
-          → FirstBadJob bytes (HasFailed failures failed) l.circuit rest fault
-          → FirstBadJob bytes (HasFailed failures failed) l.circuit all fault;
+          → FirstBadJob bytes (HasFailed failures failed) l.self.circuit.now rest fault
+          → FirstBadJob bytes (HasFailed failures failed) l.self.circuit.now all fault;
       same : (n : List ℕ) → g.F.Files.bytes l.files n ≡ bytes n;
       counted : g.F.Files.failures l.files ≡ failures;
     }
