@@ -72,22 +72,24 @@ impl Format {
             Format::Garbled => "this is a garbled file, and no circuit",
             Format::Labels => "this is a label file, and no circuit",
             Format::Aiger => {
-                "the file is AIGER: write_json of Yosys makes JSON of it, which halfgates-convert \
-                 reads"
+                "the file is AIGER: Yosys makes JSON of it, which halfgates-convert (python3 -m \
+                 halfgates.convert) reads"
             }
             Format::Blif => {
-                "the file is BLIF: write_json of Yosys makes JSON of it, which halfgates-convert \
-                 reads"
+                "the file is BLIF: Yosys makes JSON of it, which halfgates-convert (python3 -m \
+                 halfgates.convert) reads"
             }
             Format::Json => {
-                "the file is JSON: halfgates-convert makes a circuit of a netlist that Yosys writes"
+                "the file is JSON: halfgates-convert (python3 -m halfgates.convert) reads a \
+                 netlist that Yosys writes"
             }
             Format::Verilog => {
-                "the file is Verilog: write_json of Yosys makes JSON of it, which \
-                 halfgates-convert reads"
+                "the file is Verilog: Yosys makes JSON of it, which halfgates-convert (python3 -m \
+                 halfgates.convert) reads"
             }
             Format::OldBristol => {
-                "the header is that of the old Bristol format, which halfgates-convert reads"
+                "the header is that of the old Bristol format, which halfgates-convert (python3 \
+                 -m halfgates.convert) reads"
             }
         }
     }
@@ -98,7 +100,7 @@ fn is_header(first: u8, second: u8) -> bool {
     first.is_ascii_digit() && (second.is_ascii_digit() || second == b' ')
 }
 
-/// Whether the second line has three numbers and the next one is a gate's.
+/// Whether the second line has as many words as the widths of two or three values, and the next one is a gate's.
 fn has_old_header(head: &[u8]) -> bool {
     let Ok(head) = str::from_utf8(head) else {
         return false;

@@ -25,12 +25,13 @@ fn hint_of_line(line: &[u8]) -> Option<&'static str>
     }
     match line.split_whitespace().last()? {
         "MAND" => Some(
-            "MAND of 2n wires is an AND gate of its wires i and n + i, for each i below n: \
-             halfgates-convert writes these",
+            "MAND of 2n wires is n AND gates, of its wires i and n + i: halfgates-convert \
+             (python3 -m halfgates.convert) writes them",
         ),
-        "NOT" | "OR" | "NAND" | "NOR" | "XNOR" => {
-            Some("halfgates-convert writes NOT, OR, NAND, NOR and XNOR by AND, XOR and INV")
-        }
+        "NOT" | "OR" | "NAND" | "NOR" | "XNOR" => Some(
+            "halfgates-convert (python3 -m halfgates.convert) writes NOT, OR, NAND, NOR and XNOR \
+             by AND, XOR and INV",
+        ),
         _ => None,
     }
 }

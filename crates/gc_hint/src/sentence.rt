@@ -28,11 +28,7 @@ pub fn sentence_of(text: &[u8], located: &Located) -> ArrayString<MAX_SENTENCE>
 }
 
 /// Begins a sentence by the gate and the wire that it is about.
-fn push_subject(
-    sentence: &mut ArrayString<MAX_SENTENCE>,
-    gate: Option<u32>,
-    wire: Option<u32>,
-)
+fn push_subject(sentence: &mut ArrayString<MAX_SENTENCE>, gate: Option<u32>, wire: Option<u32>)
     requires { sentence.old.bytes ≡ [] }
     ensures bytes { sentence.new.bytes ≡ subject gate wire }
     ensures short { length sentence.new.bytes ≤ 34 }
