@@ -17,7 +17,7 @@ Says found bytes =
     × MatchOption found (sentence ≡ []) (λ l. IsSentence l sentence)
 
 -- The bytes are empty where the text spells a lawful circuit, or else a sentence on its first fault.
-pub record Explains (text bytes : List ℕ) : Type 0 where
+pub record IsExplained (text bytes : List ℕ) : Type 0 where
   pub found : Option Located
   pub meaning : MatchOption found ((c : Netlist) × IsLawful c × Spells text c)
       (λ l. IsLocated text l.fault l.line l.column l.gate l.wire)

@@ -5,7 +5,7 @@ ghost use Rattle.core.specs.Ptr.{as_mut_ptr};
 ghost use denote.RawPtr.{Testable};
 ghost use Rattle.halfgates_c.specs.Answers.{Answers};
 ghost use Rattle.halfgates_c.specs.Places.{IsTextMemory};
-ghost use Rattle.halfgates_c.specs.Sentences.{filled, Explains, Says};
+ghost use Rattle.halfgates_c.specs.Sentences.{filled, IsExplained, Says};
 
 use crate::code::{NULL_POINTER, code_of};
 use crate::null::is_null;
@@ -45,7 +45,7 @@ impl Sentence {
 
 /// Writes the sentence that explains the first fault of a text.
 fn explain(alloc: Global, text: &[u8], sentence: &mut Sentence) -> Result<(), KeptFault>
-    ensures ok { OnOk result (Explains text.now sentence.new.text) }
+    ensures ok { OnOk result (IsExplained text.now sentence.new.text) }
     ensures fault { IfErr result IsTextMemory }
     ensures kept { OnErr result (sentence.new ≡ sentence.old) }
 {
@@ -62,7 +62,7 @@ fn explain(alloc: Global, text: &[u8], sentence: &mut Sentence) -> Result<(), Ke
 #[unsafe(no_mangle)]
 pub extern "C" fn halfgates_explain(alloc: Global, text: &[u8], sentence: &mut Sentence) -> i32
     requires sentence { Testable (as_mut_ptr sentence) }
-    ensures answers { Answers result (Explains text.now sentence.new.text) IsTextMemory }
+    ensures answers { Answers result (IsExplained text.now sentence.new.text) IsTextMemory }
     ensures kept { result ≢ pos 0 → sentence.new ≡ sentence.old }
 {
     if is_null(sentence) {
