@@ -192,8 +192,9 @@ fn push_label_files<A: Allocator + Copy>(
         × (lines.new.items ≡ lines.old.items ++ added)) }
 {
     let (garbling, seed) = (&compared.garbling, &compared.seed);
+    let files = compared.labels.as_slice();
     let mut all_dealt = true;
-    for file in &compared.labels {
+    for file in files {
         let verdict = audit_labels(alloc, circuit, garbling, seed, file)?;
         push_verdict(lines, file.index(), &verdict)?;
         all_dealt &= is_dealt(&verdict);

@@ -2,8 +2,8 @@ use Rattle.gc_command.proofs.JobsNames.{◌≡◌, ◌≤◌, ◌-◌, ℕ, ◌+
 use Rattle.gc_command.proofs.binder.Binder.read_jobs.Given as goal
 
 -- What the lines that are left name, all of them name.
-abbrev pub invariant-loop-alloc : goal.invariant-loop-alloc
-invariant-loop-alloc g l =
+abbrev pub invariant-loop-jobs : goal.invariant-loop-jobs
+invariant-loop-jobs g l =
     let bytes = g.F.Files.bytes l.fn.files in
     let failures = g.F.Files.failures l.fn.files in
     let all = map (λ line. tokens line.now) l.lines in
@@ -19,5 +19,5 @@ invariant-loop-alloc g l =
       counted : g.F.Files.failures l.files ≡ failures;
     }
 
-abbrev pub decreases-loop-alloc : goal.decreases-loop-alloc
-decreases-loop-alloc g l = length l.lines - length l.jobs.items
+abbrev pub decreases-loop-jobs : goal.decreases-loop-jobs
+decreases-loop-jobs g l = length l.lines - length l.jobs.items
