@@ -14,7 +14,7 @@ use gc_order::{JobsOrder, Order};
 use std::alloc::Allocator;
 
 /// A garbled file or a label file, by its name.
-#[derive(Clone, Copy)]
+#[derive(Drop)]
 struct NamedFile<'a> {
     name: &'a str,
     is_garbled: bool,
@@ -45,7 +45,7 @@ impl<A: Allocator + Copy, F: Reread> Ended<'_, A, F> {
             name: self.files.trail().name(),
             is_garbled: self.opened <= 2,
         };
-        let place = match self.byte_of_fault(file, fault) {
+        let place = match self.byte_of_fault(&file, fault) {
             Some(byte) => byte_place(self.alloc, file.name, byte).ok()?,
             None => file_place(self.alloc, file.name).ok()?,
         };
@@ -80,7 +80,7 @@ impl<A: Allocator + Copy, F: Reread> Ended<'_, A, F> {
             name: names.garbled.as_str(),
             is_garbled: true,
         };
-        let told = self.told_of_named(garbled, names, fault);
+        let told = self.told_of_named(&garbled, names, fault);
         if told.is_some() {
             return told;
         }
@@ -89,7 +89,7 @@ impl<A: Allocator + Copy, F: Reread> Ended<'_, A, F> {
                 name: label.as_str(),
                 is_garbled: false,
             };
-            let told = self.told_of_named(labels, names, fault);
+            let told = self.told_of_named(&labels, names, fault);
             if told.is_some() {
                 return told;
             }
@@ -100,7 +100,7 @@ impl<A: Allocator + Copy, F: Reread> Ended<'_, A, F> {
     /// Explains the fault of a file of a job, if it has it.
     fn told_of_named(
         &self,
-        file: NamedFile<'_>,
+        file: &NamedFile<'_>,
         names: &JobNames<A>,
         fault: FileFault,
     ) -> Option<Told<A>>
@@ -117,10 +117,10 @@ impl<A: Allocator + Copy, F: Reread> Ended<'_, A, F> {
     }
 
     /// The byte at which a file has this fault, if it has it.
-    fn byte_of_fault(&self, file: NamedFile<'_>, fault: FileFault) -> Option<u64>
+    fn byte_of_fault(&self, file: &NamedFile<'_>, fault: FileFault) -> Option<u64>
         requires { fault ≢ FileFault.Memory }
         ensures { IfSome result (λ _.
-            IfSome (F.bytes self.now.files.now file.name.now) (HasFileFault fault)) }
+            IfSome (F.bytes self.now.files.now file.now.name.now) (HasFileFault fault)) }
     {
         let bytes = self.read_again(file.name)?;
         if file.is_garbled {
