@@ -190,10 +190,10 @@ int32_t halfgates_circuit_share(const halfgates_circuit *circuit, halfgates_circ
 
 /*
  * Writes a handle of the circuit with its gates in order of AND depth: the gates that set wires of one AND depth follow
- * one another, its AND gates first, each kind in file order. It has the same gates and computes the same. One garbling
- * or one evaluation of it can take half the time; halfgates_garble_many and halfgates_evaluate_many gain nothing. Its
- * digest and the numbers of its AND gates are others, so both parties need it: the evaluator orders too, or reads the
- * text that halfgates_circuit_text writes. Code: HALFGATES_MEMORY.
+ * one another, its AND gates first, each kind in file order. It has the same gates and computes the same. One
+ * evaluation of it can take half the time, and one garbling 0.7 to 0.8 of the time; halfgates_garble_many and
+ * halfgates_evaluate_many gain nothing. Its digest and the numbers of its AND gates are others, so both parties need
+ * it: the evaluator orders too, or reads the text that halfgates_circuit_text writes. Code: HALFGATES_MEMORY.
  */
 int32_t halfgates_circuit_order(const halfgates_circuit *circuit, halfgates_circuit **ordered);
 

@@ -115,8 +115,8 @@ impl Circuit {
         })
     }
 
-    /// The circuit with its gates in order of AND depth, which can be garbled and evaluated in half
-    /// the time.
+    /// The circuit with its gates in order of AND depth, which can be evaluated in half the time,
+    /// and garbled in 0.7 to 0.8 of the time.
     ///
     /// It computes the same, and has another digest: each party needs it. It pays for single
     /// garblings and evaluations, not for [`garble_many`](Self::garble_many) and

@@ -19,7 +19,7 @@ use crate::orders::carry_out;
 use crate::output::{Console, Output};
 use gc_command::{Context, Fault, Progress};
 use gc_disk::{Files, Reread};
-use gc_explain::explain;
+use gc_explain::Ended;
 use gc_order::{Asked, Order};
 use std::alloc::Global;
 use std::io::{self, ErrorKind, Write};
@@ -86,7 +86,16 @@ pub(crate) fn serve_arguments<R: Threads + Wait + Sync, F: Reread, O: Write, E: 
         Ok(asked) => match print_answer(&context, &asked.order, files, &mut console.out) {
             Ok(true) => DONE,
             Ok(false) => DISHONEST,
-            Err(fault) => report_order(fault, alloc, &asked, files, before, console),
+            Err(fault) => {
+                let ended = Ended {
+                    alloc,
+                    order: &asked.order,
+                    files: &*files,
+                    opened: files.trail().opened().saturating_sub(before),
+                    printing: console.out.cause(),
+                };
+                report_order(fault, &ended, asked.explains, console)
+            }
         },
         Err(help) if !help.use_stderr() => match write!(console.out, "{help}") {
             Ok(()) => DONE,
@@ -156,47 +165,40 @@ fn reason_of(kind: ErrorKind) -> &'static str
 }
 
 /// Says on standard error which fault ended an order and, where the arguments or the console ask for it, what explains
-/// it. `before` is how many files were opened before the order.
+/// it.
 fn report_order<F: Reread, O: Write, E: Write>(
     fault: Fault,
-    alloc: Global,
-    asked: &Asked,
-    files: &F,
-    before: u64,
+    ended: &Ended<'_, Global, F>,
+    explains: bool,
     console: &mut Console<O, E>,
 ) -> u8
     ensures status { result ≡ FAULT }
     ensures printed { (told : Printed) × PrintsFault console.old.err told fault
-        × IsTold (F.bytes files.now) (text_of asked.now.order)
-        (console.old.explains || asked.now.explains) fault told console.new.err }
+        × IsTold (F.bytes ended.now.files.now) (text_of ended.now.order.now)
+        (console.old.explains || explains) fault told console.new.err }
     ensures same { console.new.out ≡ console.old.out }
 {
     let status = report(fault, &mut console.err);
-    tell(fault, alloc, asked, files, before, console);
+    tell(fault, ended, explains, console);
     status
 }
 
 /// Says on standard error what explains the fault of an order, where the arguments or the console ask for it. Where
-/// that fails, nothing can be said. `before` is how many files were opened before the order.
+/// that fails, nothing can be said.
 fn tell<F: Reread, O: Write, E: Write>(
     fault: Fault,
-    alloc: Global,
-    asked: &Asked,
-    files: &F,
-    before: u64,
+    ended: &Ended<'_, Global, F>,
+    explains: bool,
     console: &mut Console<O, E>,
 )
-    ensures told { IsTold (F.bytes files.now) (text_of asked.now.order)
-        (console.old.explains || asked.now.explains) fault console.old.err console.new.err }
+    ensures told { IsTold (F.bytes ended.now.files.now) (text_of ended.now.order.now)
+        (console.old.explains || explains) fault console.old.err console.new.err }
     ensures same { console.new.out ≡ console.old.out }
 {
-    let explains = console.explains | asked.explains;
-    if !explains {
+    if !(console.explains | explains) {
         return;
     }
-    let opened = files.trail().opened().saturating_sub(before);
-    let printing = console.out.cause();
-    if let Some(line) = explain(alloc, &asked.order, files, opened, fault, printing) {
+    if let Some(line) = ended.explain(fault) {
         write_told(&line, &mut console.err);
     }
 }

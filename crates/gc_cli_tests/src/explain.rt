@@ -2,11 +2,11 @@
 //! that it is as it should be.
 
 use crate::files::XOR_FILES;
-use crate::jobs::{order, result_of};
+use crate::jobs::{Trial, order};
 use gc_circuit::{ReadFault, ValueFault};
 use gc_command::Fault;
 use gc_disk::Reread;
-use gc_explain::explain;
+use gc_explain::Ended;
 use gc_file::FileFault;
 use gc_fixtures::MemFiles;
 use gc_fixtures::circuits::SEED;
@@ -71,65 +71,73 @@ the circuit's file\n",
     ),
 ];
 
-/// Whether a fault of an order is explained by this line.
-fn is_told<A: Allocator + Copy>(
-    memory: A,
-    order: &Order,
-    files: &MemFiles<'_>,
+/// An order, by its arguments, that has ended by a fault over these files, and the line that explains the fault.
+#[derive(Clone, Copy)]
+struct Explained<'a> {
+    alloc: Global,
+    words: &'a [&'a str],
+    files: &'a MemFiles<'a>,
     fault: Fault,
-    line: &str,
-) -> bool {
-    match explain(memory, order, files, files.trail().opened(), fault, None) {
-        Some(told) => told.as_slice() == line.as_bytes(),
-        None => false,
-    }
+    line: &'a str,
 }
 
-/// The same of the order of these arguments.
-fn is_explained<A: Allocator + Copy>(
-    alloc: Global,
-    memory: A,
-    arguments: &[&str],
-    files: &MemFiles<'_>,
-    fault: Fault,
-    line: &str,
-) -> Result<bool, Fail> {
-    let order = order(alloc, arguments)?;
-    Ok(is_told(memory, &order, files, fault, line))
-}
-
-/// Asserts that a fault is explained by this line, also after each of its growths was refused.
-fn assert_explained(
-    alloc: Global,
-    arguments: &[&str],
-    files: &MemFiles<'_>,
-    fault: Fault,
-    line: &str,
-) -> Result<(), Fail> {
-    for growth in 1..100 {
-        let heap = Refusing::nth(alloc, growth);
-        let is_right = is_explained(alloc, &heap, arguments, files, fault, line)?;
-        if heap.refused() == 0 {
-            return equal((line, is_right), (line, true));
+impl Explained<'_> {
+    /// Whether the fault of this order is explained by the line.
+    fn is_told<A: Allocator + Copy>(self, memory: A, order: &Order) -> bool {
+        let ended = Ended {
+            alloc: memory,
+            order,
+            files: self.files,
+            opened: self.files.trail().opened(),
+            printing: None,
+        };
+        match ended.explain(self.fault) {
+            Some(told) => told.as_slice() == self.line.as_bytes(),
+            None => false,
         }
-        let is_right = is_explained(alloc, &heap, arguments, files, fault, line)?;
-        equal((line, is_right), (line, true))?;
     }
-    Err(Fail::new("each run met a refusal"))
+
+    /// The same of the order of the arguments.
+    fn is_explained<A: Allocator + Copy>(self, memory: A) -> Result<bool, Fail> {
+        let order = order(self.alloc, self.words)?;
+        Ok(self.is_told(memory, &order))
+    }
+
+    /// Asserts that the fault is explained by the line, also after each of its growths was refused.
+    fn assert(self) -> Result<(), Fail> {
+        for growth in 1..100 {
+            let heap = Refusing::nth(self.alloc, growth);
+            let is_right = self.is_explained(&heap)?;
+            if heap.refused() == 0 {
+                return equal((self.line, is_right), (self.line, true));
+            }
+            let is_right = self.is_explained(&heap)?;
+            equal((self.line, is_right), (self.line, true))?;
+        }
+        Err(Fail::new("each run met a refusal"))
+    }
 }
 
 /// Asserts that the order of these arguments has a fault, which is explained by this line.
 fn assert_ends<R: Threads + Wait + Sync>(
     rt: &R,
     alloc: Global,
-    arguments: &[&str],
+    words: &[&str],
     line: &str,
 ) -> Result<(), Fail> {
     let mut files = MemFiles::new(alloc, &XOR_FILES);
-    match result_of(rt, alloc, alloc, arguments, &mut files)? {
-        Ok(_) => Err(Fail::new("there is no fault")),
-        Err(fault) => assert_explained(alloc, arguments, &files, fault, line),
-    }
+    let fault = match (Trial { rt, alloc, words }).result(alloc, &mut files)? {
+        Ok(_) => return Err(Fail::new("there is no fault")),
+        Err(fault) => fault,
+    };
+    let explained = Explained {
+        alloc,
+        words,
+        files: &files,
+        fault,
+        line,
+    };
+    explained.assert()
 }
 
 #[test]
@@ -155,8 +163,14 @@ const MEMORY: [Fault; 7] = [
 fn want_of_memory(rt: HostRuntime) -> Result<(), Fail> {
     let files = MemFiles::new(rt.alloc(), &[]);
     for fault in MEMORY {
-        let line = "halfgates: memory ran out\n";
-        assert_explained(rt.alloc(), &["check", "c.txt"], &files, fault, line)?;
+        let explained = Explained {
+            alloc: rt.alloc(),
+            words: &["check", "c.txt"],
+            files: &files,
+            fault,
+            line: "halfgates: memory ran out\n",
+        };
+        explained.assert()?;
     }
     Ok(())
 }

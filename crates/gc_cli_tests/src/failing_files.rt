@@ -1,12 +1,11 @@
 //! Tests of files that fail: each call of them in turn, and sources and sinks in mid-stream.
 
 use crate::files::XOR_FILES;
-use crate::jobs::{assert_printed, result_of};
+use crate::jobs::{Trial, assert_printed};
 use gc_command::Fault;
 use gc_fixtures::circuits::SEED;
 use gc_fixtures::compare::equal;
 use gc_fixtures::{Limits, MemFiles};
-use std::alloc::Global;
 use std::sync::Wait;
 use std::test::Fail;
 use std::thread::Threads;
@@ -88,30 +87,46 @@ labels 1 1
 honest
 ";
 
-/// Asserts that the order ends by this fault over files with these limits, and leaves no sink open.
-fn assert_fails<R: Threads + Wait + Sync>(
-    rt: &R,
-    alloc: Global,
-    words: &[&str],
-    limits: Limits,
-    fault: Fault,
-) -> Result<(), Fail> {
-    let mut files = MemFiles::limited(alloc, &XOR_FILES, limits);
-    let found = result_of(rt, alloc, alloc, words, &mut files)?.err();
-    equal((words, found, files.open_sinks()), (words, Some(fault), 0))
-}
+impl<R: Threads + Wait + Sync> Trial<'_, R> {
+    /// Asserts that the order ends by this fault over files with these limits, and leaves no sink open.
+    fn assert_fails(&self, limits: Limits, fault: Fault) -> Result<(), Fail> {
+        let mut files = MemFiles::limited(self.alloc, &XOR_FILES, limits);
+        let found = self.result(self.alloc, &mut files)?.err();
+        equal(
+            (self.words, found, files.open_sinks()),
+            (self.words, Some(fault), 0),
+        )
+    }
 
-/// Asserts that the order prints this over files with these limits.
-fn assert_prints<R: Threads + Wait + Sync>(
-    rt: &R,
-    alloc: Global,
-    words: &[&str],
-    limits: Limits,
-    printed: &str,
-) -> Result<(), Fail> {
-    let mut files = MemFiles::limited(alloc, &XOR_FILES, limits);
-    let answer = result_of(rt, alloc, alloc, words, &mut files)??;
-    assert_printed(alloc, answer, printed)
+    /// Asserts that the order prints this over files with these limits.
+    fn assert_prints(&self, limits: Limits, printed: &str) -> Result<(), Fail> {
+        let mut files = MemFiles::limited(self.alloc, &XOR_FILES, limits);
+        let answer = self.result(self.alloc, &mut files)??;
+        assert_printed(self.alloc, answer, printed)
+    }
+
+    /// Asserts that the order has these faults where each of its calls fails in turn. Where all of them go well, none
+    /// is left that fails.
+    fn assert_calls(&self, printed: &str, faults: &[Fault]) -> Result<(), Fail> {
+        let mut calls = 0;
+        for fault in faults {
+            self.assert_fails(calls_alone(calls), *fault)?;
+            calls = calls.saturating_add(1);
+        }
+        if printed.is_empty() {
+            return Ok(());
+        }
+        self.assert_prints(calls_alone(calls), printed)
+    }
+
+    /// Asserts that the order has this fault where a source or a sink fails after each number of bytes that isn't
+    /// enough.
+    fn assert_streams(&self, enough: usize, fault: Fault, printed: &str) -> Result<(), Fail> {
+        for bytes in 0..enough {
+            self.assert_fails(bytes_alone(bytes, fault), fault)?;
+        }
+        self.assert_prints(bytes_alone(enough, fault), printed)
+    }
 }
 
 /// Files of which this many calls go well.
@@ -122,30 +137,11 @@ fn calls_alone(calls: u32) -> Limits {
     }
 }
 
-/// Asserts that the order has these faults where each of its calls fails in turn. Where all of them go well, none is
-/// left that fails.
-fn assert_calls<R: Threads + Wait + Sync>(
-    rt: &R,
-    alloc: Global,
-    words: &[&str],
-    printed: &str,
-    faults: &[Fault],
-) -> Result<(), Fail> {
-    let mut calls = 0;
-    for fault in faults {
-        assert_fails(rt, alloc, words, calls_alone(calls), *fault)?;
-        calls = calls.saturating_add(1);
-    }
-    if printed.is_empty() {
-        return Ok(());
-    }
-    assert_prints(rt, alloc, words, calls_alone(calls), printed)
-}
-
 #[test]
 fn each_call_in_turn(rt: HostRuntime) -> Result<(), Fail> {
+    let (rt, alloc) = (&rt, rt.alloc());
     for (words, printed, faults) in &ORDERS {
-        assert_calls(&rt, rt.alloc(), words, printed, faults)?;
+        Trial { rt, alloc, words }.assert_calls(printed, faults)?;
     }
     Ok(())
 }
@@ -179,24 +175,11 @@ fn bytes_alone(bytes: usize, fault: Fault) -> Limits {
     }
 }
 
-/// Asserts that the order has this fault where a source or a sink fails after each number of bytes that isn't enough.
-fn assert_streams<R: Threads + Wait + Sync>(
-    rt: &R,
-    alloc: Global,
-    words: &[&str],
-    (enough, fault): (usize, Fault),
-    printed: &str,
-) -> Result<(), Fail> {
-    for bytes in 0..enough {
-        assert_fails(rt, alloc, words, bytes_alone(bytes, fault), fault)?;
-    }
-    assert_prints(rt, alloc, words, bytes_alone(enough, fault), printed)
-}
-
 #[test]
 fn in_mid_stream(rt: HostRuntime) -> Result<(), Fail> {
+    let (rt, alloc) = (&rt, rt.alloc());
     for (words, enough, fault, printed) in &STREAMS {
-        assert_streams(&rt, rt.alloc(), words, (*enough, *fault), printed)?;
+        Trial { rt, alloc, words }.assert_streams(*enough, *fault, printed)?;
     }
     Ok(())
 }

@@ -1,12 +1,11 @@
 //! Each growth of a command refused in turn: the fault's code says which part of the work lacked memory.
 
 use crate::files::ADDER_FILES;
-use crate::jobs::{Outcome, outcome_of_refusal};
+use crate::jobs::{Outcome, Trial};
 use gc_fixtures::MemFiles;
 use gc_fixtures::circuits::{ADDER_LINES, SEED};
 use gc_fixtures::compare::equal;
 use gc_fixtures::refusing::Refusing;
-use std::alloc::Global;
 use std::sync::Wait;
 use std::test::Fail;
 use std::thread::Threads;
@@ -202,24 +201,34 @@ labels 2 1
 honest
 ";
 
-/// Carries out the order with the growth of this number refused. It returns the code of the fault: 0 where the order
-/// did without that growth, and None where no growth was refused.
-fn code_of_refusal<R: Threads + Wait + Sync>(
-    rt: &R,
-    alloc: Global,
-    words: &[&str],
-    printed: &str,
-    growth: u64,
-) -> Result<Option<u32>, Fail> {
-    let heap = Refusing::nth(alloc, growth);
-    let mut files = MemFiles::new(alloc, &ADDER_FILES);
-    Ok(
-        match outcome_of_refusal(rt, alloc, &heap, words, &mut files, printed)? {
-            Outcome::Unrefused => None,
-            Outcome::Printed => Some(0),
-            Outcome::Ended(fault) => Some(fault.code()),
-        },
-    )
+impl<R: Threads + Wait + Sync> Trial<'_, R> {
+    /// Carries out the order with the growth of this number refused. It returns the code of the fault: 0 where the
+    /// order did without that growth, and None where no growth was refused.
+    fn code_of_refusal(&self, printed: &str, growth: u64) -> Result<Option<u32>, Fail> {
+        let heap = Refusing::nth(self.alloc, growth);
+        let mut files = MemFiles::new(self.alloc, &ADDER_FILES);
+        Ok(
+            match self.outcome_of_refusal(&heap, &mut files, printed)? {
+                Outcome::Unrefused => None,
+                Outcome::Printed => Some(0),
+                Outcome::Ended(fault) => Some(fault.code()),
+            },
+        )
+    }
+
+    /// Asserts that growth 1, 2, 3, .. of the order has the code of its part, and that there is none after the last
+    /// part.
+    fn assert_codes(&self, printed: &str, parts: &[&[Part]]) -> Result<(), Fail> {
+        for growth in 1..64 {
+            let wanted = code_in(parts, growth);
+            let found = self.code_of_refusal(printed, growth)?;
+            equal((self.words, growth, found), (self.words, growth, wanted))?;
+            if wanted.is_none() {
+                return Ok(());
+            }
+        }
+        Err(Fail::new("each run met a refusal"))
+    }
 }
 
 /// The code of the growth of this number, counted from 1, in the parts of these lists: None after the last one.
@@ -236,30 +245,12 @@ fn code_in(lists: &[&[Part]], growth: u64) -> Option<u32> {
     None
 }
 
-/// Asserts that growth 1, 2, 3, .. of the order has the code of its part, and that there is none after the last part.
-fn assert_codes<R: Threads + Wait + Sync>(
-    rt: &R,
-    alloc: Global,
-    words: &[&str],
-    printed: &str,
-    parts: &[&[Part]],
-) -> Result<(), Fail> {
-    for growth in 1..64 {
-        let wanted = code_in(parts, growth);
-        let found = code_of_refusal(rt, alloc, words, printed, growth)?;
-        equal((words, growth, found), (words, growth, wanted))?;
-        if wanted.is_none() {
-            return Ok(());
-        }
-    }
-    Err(Fail::new("each run met a refusal"))
-}
-
 /// The memory of each part of the work has its own fault.
 #[test]
 fn each_growth_refused(rt: HostRuntime) -> Result<(), Fail> {
+    let (rt, alloc) = (&rt, rt.alloc());
     for (words, printed, parts) in &ORDERS {
-        assert_codes(&rt, rt.alloc(), words, printed, parts)?;
+        Trial { rt, alloc, words }.assert_codes(printed, parts)?;
     }
     Ok(())
 }

@@ -1,7 +1,7 @@
 //! Tests of lists of jobs, of which the files of some lines are read before their garbled files are checked.
 
 use crate::files::XOR_FILES;
-use crate::jobs::result_of;
+use crate::jobs::Trial;
 use gc_command::Fault;
 use gc_disk::Reread;
 use gc_file::FileFault;
@@ -40,8 +40,9 @@ fn opened<R: Threads + Wait + Sync>(
         ("l", NO_LABELS),
     ];
     let mut files = MemFiles::new(alloc, &held);
-    let words = ["jobs", "c.txt", "list"];
-    let fault = result_of(rt, alloc, alloc, &words, &mut files)?.err();
+    let words = &["jobs", "c.txt", "list"];
+    let trial = Trial { rt, alloc, words };
+    let fault = trial.result(alloc, &mut files)?.err();
     Ok((fault, files.trail().opened()))
 }
 
@@ -74,7 +75,8 @@ fn assert_first<R: Threads + Wait + Sync>(
     for growth in 1..1000 {
         let heap = Refusing::nth(alloc, growth);
         let mut files = MemFiles::new(alloc, &XOR_FILES);
-        let fault = result_of(rt, alloc, &heap, words, &mut files)?.err();
+        let trial = Trial { rt, alloc, words };
+        let fault = trial.result(&heap, &mut files)?.err();
         if heap.refused() == 0 {
             return equal(fault, Some(Fault::File(FileFault::BadTrailer)));
         }

@@ -43,19 +43,6 @@ fn carry_out_alone<R: Threads + Wait + Sync, A: Allocator + Copy + Send + Sync, 
     carry_out(&context, order, files)
 }
 
-/// The same of the order of these arguments. No caller holds an order, since the proof that it is dropped on each path
-/// takes long.
-pub fn result_of<R: Threads + Wait + Sync, A: Allocator + Copy + Send + Sync, F: Files>(
-    rt: &R,
-    alloc: Global,
-    memory: A,
-    arguments: &[&str],
-    files: &mut F,
-) -> Result<Result<Answer<A>, Fault>, Fail> {
-    let order = order(alloc, arguments)?;
-    Ok(carry_out_alone(rt, memory, &order, files))
-}
-
 /// Asserts that a result prints this.
 pub fn assert_printed<A: Allocator>(
     alloc: Global,
@@ -78,26 +65,48 @@ pub enum Outcome {
     Ended(Fault),
 }
 
-/// Carries out the order with memory of a heap that refuses one growth. Where no fault ends it, it prints this. Either
-/// way no sink is left open.
-pub fn outcome_of_refusal<R: Threads + Wait + Sync, B: Allocator + Copy>(
-    rt: &R,
-    alloc: Global,
-    heap: &Refusing<Global>,
-    words: &[&str],
-    files: &mut MemFiles<'_, B>,
-    printed: &str,
-) -> Result<Outcome, Fail> {
-    let result = result_of(rt, alloc, heap, words, files)?;
-    equal((words, files.open_sinks()), (words, 0))?;
-    match result {
-        Ok(answer) => assert_printed(alloc, answer, printed)?,
-        Err(fault) if heap.refused() == 1 => return Ok(Outcome::Ended(fault)),
-        Err(_) => return Err(Fail::new("a fault without a refusal")),
+/// An order of a test, by its arguments.
+#[derive(Drop)]
+pub struct Trial<'a, R> {
+    /// The runtime.
+    pub rt: &'a R,
+    /// The test's own allocator.
+    pub alloc: Global,
+    /// The arguments.
+    pub words: &'a [&'a str],
+}
+
+impl<R: Threads + Wait + Sync> Trial<'_, R> {
+    /// Carries out the order with memory of this allocator, without an observer. No caller holds an order, since the
+    /// proof that it is dropped on each path takes long.
+    pub fn result<A: Allocator + Copy + Send + Sync, F: Files>(
+        &self,
+        memory: A,
+        files: &mut F,
+    ) -> Result<Result<Answer<A>, Fault>, Fail> {
+        let order = order(self.alloc, self.words)?;
+        Ok(carry_out_alone(self.rt, memory, &order, files))
     }
-    if heap.refused() == 0 {
-        Ok(Outcome::Unrefused)
-    } else {
-        Ok(Outcome::Printed)
+
+    /// Carries out the order with memory of a heap that refuses one growth. Where no fault ends it, it prints this.
+    /// Either way no sink is left open.
+    pub fn outcome_of_refusal<B: Allocator + Copy>(
+        &self,
+        heap: &Refusing<Global>,
+        files: &mut MemFiles<'_, B>,
+        printed: &str,
+    ) -> Result<Outcome, Fail> {
+        let result = self.result(heap, files)?;
+        equal((self.words, files.open_sinks()), (self.words, 0))?;
+        match result {
+            Ok(answer) => assert_printed(self.alloc, answer, printed)?,
+            Err(fault) if heap.refused() == 1 => return Ok(Outcome::Ended(fault)),
+            Err(_) => return Err(Fail::new("a fault without a refusal")),
+        }
+        if heap.refused() == 0 {
+            Ok(Outcome::Unrefused)
+        } else {
+            Ok(Outcome::Printed)
+        }
     }
 }

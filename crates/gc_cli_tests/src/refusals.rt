@@ -2,7 +2,7 @@
 //! use the same memory. After a refusal the same order over the same files is carried out.
 
 use crate::files::XOR_FILES;
-use crate::jobs::{Outcome, assert_printed, outcome_of_refusal, result_of};
+use crate::jobs::{Outcome, Trial, assert_printed};
 use gc_circuit::Circuit;
 use gc_command::Fault;
 use gc_file::Version;
@@ -37,49 +37,44 @@ static ORDERS: [(&[&str], &str, u32); 5] = [
 /// The faults of memory: those of circuits and values, garbling, files that are read, evaluation, and the program.
 const MEMORY: [u32; 5] = [13, 23, 36, 46, 52];
 
-/// What comes of an order where the growth of this number is refused. After a fault the same order prints its lines.
-fn outcome<R: Threads + Wait + Sync>(
-    rt: &R,
-    alloc: Global,
-    files: &[(&str, &[u8])],
-    words: &[&str],
-    printed: &str,
-    growth: u64,
-) -> Result<Outcome, Fail> {
-    let heap = Refusing::nth(alloc, growth);
-    let mut held = MemFiles::new(&heap, files);
-    let outcome = outcome_of_refusal(rt, alloc, &heap, words, &mut held, printed)?;
-    if let Outcome::Ended(_) = outcome {
-        let answer = result_of(rt, alloc, &heap, words, &mut held)??;
-        assert_printed(alloc, answer, printed)?;
+impl<R: Threads + Wait + Sync> Trial<'_, R> {
+    /// What comes of the order where the growth of this number is refused. After a fault the same order prints its
+    /// lines.
+    fn outcome(
+        &self,
+        files: &[(&str, &[u8])],
+        printed: &str,
+        growth: u64,
+    ) -> Result<Outcome, Fail> {
+        let heap = Refusing::nth(self.alloc, growth);
+        let mut held = MemFiles::new(&heap, files);
+        let outcome = self.outcome_of_refusal(&heap, &mut held, printed)?;
+        if let Outcome::Ended(_) = outcome {
+            let answer = self.result(&heap, &mut held)??;
+            assert_printed(self.alloc, answer, printed)?;
+        }
+        Ok(outcome)
     }
-    Ok(outcome)
+
+    /// Carries out the order with growth 1, 2, 3, .. refused, until a run meets no refusal. It returns how many runs
+    /// couldn't write the file; all others printed their lines, or had a fault of memory.
+    fn unwritten_runs(&self, files: &[(&str, &[u8])], printed: &str) -> Result<u32, Fail> {
+        let mut unwritten = 0u32;
+        for growth in 1..1000 {
+            match self.outcome(files, printed, growth)? {
+                Outcome::Unrefused => return Ok(unwritten),
+                Outcome::Printed => {}
+                Outcome::Ended(Fault::CannotWrite) => unwritten = unwritten.saturating_add(1),
+                Outcome::Ended(fault) => of_memory(fault)?,
+            }
+        }
+        Err(Fail::new("each run met a refusal"))
+    }
 }
 
 /// Fails where a fault isn't one of memory.
 fn of_memory(fault: Fault) -> Result<(), Fail> {
     equal((fault, MEMORY.contains(&fault.code())), (fault, true))
-}
-
-/// Carries out the order with growth 1, 2, 3, .. refused, until a run meets no refusal. It returns how many runs
-/// couldn't write the file; all others printed their lines, or had a fault of memory.
-fn unwritten_runs<R: Threads + Wait + Sync>(
-    rt: &R,
-    alloc: Global,
-    files: &[(&str, &[u8])],
-    words: &[&str],
-    printed: &str,
-) -> Result<u32, Fail> {
-    let mut unwritten = 0u32;
-    for growth in 1..1000 {
-        match outcome(rt, alloc, files, words, printed, growth)? {
-            Outcome::Unrefused => return Ok(unwritten),
-            Outcome::Printed => {}
-            Outcome::Ended(Fault::CannotWrite) => unwritten = unwritten.saturating_add(1),
-            Outcome::Ended(fault) => of_memory(fault)?,
-        }
-    }
-    Err(Fail::new("each run met a refusal"))
 }
 
 /// Asserts of each order that as many runs couldn't write the file as there are growths of it.
@@ -89,7 +84,7 @@ fn assert_orders<R: Threads + Wait + Sync>(
     files: &[(&str, &[u8])],
 ) -> Result<(), Fail> {
     for (words, printed, growths) in &ORDERS {
-        let unwritten = unwritten_runs(rt, alloc, files, words, printed)?;
+        let unwritten = Trial { rt, alloc, words }.unwritten_runs(files, printed)?;
         equal((words, unwritten), (words, *growths))?;
     }
     Ok(())
@@ -119,10 +114,8 @@ fn by_two_workers(rt: HostRuntime) -> Result<(), Fail> {
 /// The files of eight lines are read before their garbled files are checked.
 #[test]
 fn of_a_list(rt: HostRuntime) -> Result<(), Fail> {
-    let words = ["jobs", "c.txt", "nine"];
+    let (rt, alloc, words) = (&rt, rt.alloc(), &["jobs", "c.txt", "nine"]);
     let printed = "1\n\n1\n\n1\n\n1\n\n1\n\n1\n\n1\n\n1\n\n1\n\n";
-    equal(
-        unwritten_runs(&rt, rt.alloc(), &XOR_FILES, &words, printed)?,
-        0,
-    )
+    let unwritten = Trial { rt, alloc, words }.unwritten_runs(&XOR_FILES, printed)?;
+    equal(unwritten, 0)
 }

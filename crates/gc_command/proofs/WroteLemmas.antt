@@ -6,11 +6,18 @@ use Rattle.gc_half.specs.Garbling.{GarblingParts, IsGarbled, FitsCircuit}
 use Rattle.gc_file.specs.declared.writer.WriteFault.{WriteFault}
 use Rattle.gc_file.specs.Written.{IsWritten}
 use Rattle.gc_command.specs.declared.fault.Fault.TheVariants as faults
-use Rattle.gc_command.specs.Wrote.{IsUnwritten}
+use Rattle.gc_command.specs.Wrote.{HasWritten, IsUnwritten, wrote_line}
 use Rattle.gc_command.specs.Deal.{IsDealInput, HasDealFault}
 use Rattle.gc_command.specs.CircuitFile.{IsCircuit}
 use Rattle.gc_command.specs.Order.{HasOrderFault}
 use Rattle.gc_command.specs.Garble.{IsGarbleInput, HasGarbleFault}
+
+-- the line of a file that holds these bytes
+pub written-line : (file : List ℕ) (held : Option (List ℕ)) (lines : List ℕ) (count : ℕ)
+    → lines ≡ wrote_line count → (held ≡ Some file) × (count ≡ length file)
+    → HasWritten file held lines
+written-line file held lines count line is =
+    record { holds = is.0; printed = line ∙ ap wrote_line is.1 }
 
 -- two facts of one known value, joined
 pub IfSome-both : {T : Type 0} (o : Option T) (P Q R : T → Type 0)

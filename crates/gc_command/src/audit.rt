@@ -69,16 +69,9 @@ pub fn audit<R: Threads + Wait + Sync, A: Allocator + Copy + Send + Sync, F: Fil
         &|circuit, input| compare_input(context, circuit, input),
     )?;
     drop(bytes);
-    let Compared {
-        seed,
-        version,
-        named,
-        labels,
-        garbling,
-        parts,
-    } = made?;
-    let found = garbled_audit(named, digest, parts);
-    match audit_lines(alloc, &circuit, version, &found, &garbling, &seed, &labels) {
+    let compared = made?;
+    let found = garbled_audit(compared.named, digest, compared.parts);
+    match audit_lines(alloc, &circuit, &found, &compared) {
         Ok(found) => Ok(found),
         Err(_) => Err(Fault::Memory),
     }
@@ -128,12 +121,12 @@ fn read_input<R, A: Allocator + Copy, F: Files, P: Progress>(
 /// What files are compared with, and what is found of the garbled file's parts, before it is known whether the file
 /// names the circuit's digest.
 #[derive(Drop)]
-struct Compared<A: Allocator> {
-    seed: Seed,
-    version: Version,
+pub(crate) struct Compared<A: Allocator> {
+    pub(crate) seed: Seed,
+    pub(crate) version: Version,
     named: [u8; 32],
-    labels: Vec<LabelFile<A>, A>,
-    garbling: Garbling<A>,
+    pub(crate) labels: Vec<LabelFile<A>, A>,
+    pub(crate) garbling: Garbling<A>,
     parts: Option<PartsAudit>,
 }
 

@@ -9,7 +9,7 @@ ghost use Rattle.gc_audit.specs.Garbled.{IsGarbledAudit};
 ghost use Rattle.gc_command.specs.Audit.{AreAuditLines, AreLabelsFound, bits_line, digest_line, end_line, entries_line, garbled_lines};
 ghost use Rattle.gc_command.specs.Audit.{is_dealt, parts_lines, rows_line, rows_name, value_word, verdict_line};
 
-use crate::audit::Audited;
+use crate::audit::{Audited, Compared};
 use crate::lines::{push_field, push_number, push_word};
 use crate::value_form::push_digits;
 use gc_audit::{
@@ -17,30 +17,27 @@ use gc_audit::{
     audit_labels,
 };
 use gc_circuit::{Circuit, Memory};
-use gc_file::{LabelFile, Version};
-use gc_half::Garbling;
-use gc_label::Seed;
+use gc_file::Version;
 use std::alloc::{AllocError, Allocator};
 
-/// What is found of a garbled file of a version and of label files, by the garbling of the circuit under the seed.
+/// What is found of a garbled file and of label files, by the garbling of the circuit under the seed.
 pub(crate) fn audit_lines<A: Allocator + Copy>(
     alloc: A,
     circuit: &Circuit<A>,
-    version: Version,
     found: &GarbledAudit,
-    garbling: &Garbling<A>,
-    seed: &Seed,
-    label_files: &[LabelFile<A>],
+    compared: &Compared<A>,
 ) -> Result<Audited<A>, Memory>
-    requires { HasLabels circuit.now seed.now garbling.now }
-    ensures { IfOk result (λ made. (file : GarbledParts) → file.version ≡ version
-        → IsGarbledAudit circuit.now (garbling_of circuit.now seed.now) seed.now file found.now
-        → AreAuditLines circuit.now seed.now file label_files.now made.is_honest made.lines.items) }
+    requires { HasLabels circuit.now compared.now.seed compared.now.garbling }
+    ensures { IfOk result (λ made. (file : GarbledParts) → file.version ≡ compared.now.version
+        → IsGarbledAudit circuit.now (garbling_of circuit.now compared.now.seed)
+        compared.now.seed file found.now
+        → AreAuditLines circuit.now compared.now.seed file compared.now.labels.items
+        made.is_honest made.lines.items) }
 {
     circuit.law_lawful();
     let mut lines = Vec::new(alloc);
-    push_garbled(&mut lines, version, found)?;
-    let all_dealt = push_label_files(&mut lines, alloc, circuit, garbling, seed, label_files)?;
+    push_garbled(&mut lines, compared.version, found)?;
+    let all_dealt = push_label_files(&mut lines, alloc, circuit, compared)?;
     let is_honest = found.is_honest() && all_dealt;
     push_end(&mut lines, is_honest)?;
     Ok(Audited { is_honest, lines })
@@ -181,21 +178,21 @@ fn push_entry_difference<A: Allocator>(
     Ok(())
 }
 
-/// Adds the line of each label file, and returns whether all are the dealer's. The caller ensures that `garbling` is
+/// Adds the line of each label file, and returns whether all are the dealer's. The caller ensures that the garbling is
 /// the circuit's under the seed.
 fn push_label_files<A: Allocator + Copy>(
     lines: &mut Vec<u8, A>,
     alloc: A,
     circuit: &Circuit<A>,
-    garbling: &Garbling<A>,
-    seed: &Seed,
-    files: &[LabelFile<A>],
+    compared: &Compared<A>,
 ) -> Result<bool, Memory>
-    requires { HasLabels circuit.now seed.now garbling.now }
+    requires { HasLabels circuit.now compared.now.seed compared.now.garbling }
     ensures { IfOk result (λ all_dealt. (added : List ℕ)
-        × AreLabelsFound circuit.now seed.now files.now all_dealt added
+        × AreLabelsFound circuit.now compared.now.seed compared.now.labels.items all_dealt added
         × (lines.new.items ≡ lines.old.items ++ added)) }
 {
+    let (garbling, seed) = (&compared.garbling, &compared.seed);
+    let files = compared.labels.as_slice();
     let mut all_dealt = true;
     for file in files {
         let verdict = audit_labels(alloc, circuit, garbling, seed, file)?;

@@ -9,9 +9,9 @@ ghost use Rattle.gc_command.specs.Fault.{HasCause, HasWriteCause};
 
 use crate::circuit_file::read_circuit;
 use crate::fault::Fault;
+use crate::garbler::Garbler;
 use crate::values::read_input_value;
-use crate::wrote::{ROOM, keep_written};
-use gc_circuit::Circuit;
+use crate::wrote::{ROOM, keep_written, wrote_line};
 use gc_disk::Files;
 use gc_file::write_labels;
 use gc_label::Seed;
@@ -51,35 +51,42 @@ pub fn deal<A: Allocator + Copy, F: Files>(
     let circuit = read_circuit(alloc, name, files)?;
     let seed = Seed::from_hex(seed)?;
     let bits = read_input_value(alloc, circuit.input_widths(), order.index, value)?;
-    write_value(alloc, order, &circuit, &seed, &bits, files)
+    let garbler = Garbler {
+        alloc,
+        circuit: &circuit,
+        seed: &seed,
+    };
+    garbler.write_value(order, &bits, files)
 }
 
-/// Writes the label file of the input value, which has these bits and is not the circuit's file. The caller ensures
-/// that there is such a value, and that the bits have its width.
-fn write_value<A: Allocator + Copy, F: Files>(
-    alloc: A,
-    order: &DealOrder,
-    circuit: &Circuit<A>,
-    seed: &Seed,
-    bits: &[bool],
-    files: &mut F,
-) -> Result<Vec<u8, A>, Fault>
-    requires { slice_get circuit.now.input_widths order.now.index ≡ Some (length bits.now) }
-    ensures written { IfOk result (λ lines. (n : List ℕ) → IfSome (F.bytes files.old n)
-        (λ _. HasWritten
-        (label_file (label_parts_of circuit.now seed.now order.now.index bits.now))
-        (F.bytes files.new (string_bytes order.now.out)) lines.items)) }
-    ensures fault { IfErr result IsUnwritten }
-    ensures cause { IfErr result (HasWriteCause (F.failures files.old) (F.failures files.new)
-        (string_bytes order.now.out)) }
-    ensures others { (n : List ℕ) → n ≢ string_bytes order.now.out
-        → F.bytes files.new n ≡ F.bytes files.old n }
-    ensures unwritten { OnErr result (KeepsFiles (F.bytes files.old) (F.bytes files.new)) }
-    ensures apart { OnOk result (string_bytes order.now.out ≢ string_bytes order.now.circuit) }
-{
-    let room = Vec::with_capacity(alloc, ROOM)?;
-    let (out, source) = (order.out.as_str(), order.circuit.as_str());
-    let mut sink = files.create(out, source)?;
-    let written = write_labels(&mut sink, circuit, seed, order.index, bits);
-    keep_written(files, out, sink, written, room)
+impl<A: Allocator + Copy> Garbler<'_, A> {
+    /// Writes the label file of the input value, which has these bits and is not the circuit's file. The caller ensures
+    /// that there is such a value, and that the bits have its width.
+    fn write_value<F: Files>(
+        &self,
+        order: &DealOrder,
+        bits: &[bool],
+        files: &mut F,
+    ) -> Result<Vec<u8, A>, Fault>
+        requires { slice_get self.now.circuit.now.input_widths order.now.index ≡ Some (length bits.now) }
+        ensures written { IfOk result (λ lines. (n : List ℕ) → IfSome (F.bytes files.old n)
+            (λ _. HasWritten
+            (label_file (label_parts_of self.now.circuit.now self.now.seed.now order.now.index
+            bits.now))
+            (F.bytes files.new (string_bytes order.now.out)) lines.items)) }
+        ensures fault { IfErr result IsUnwritten }
+        ensures cause { IfErr result (HasWriteCause (F.failures files.old) (F.failures files.new)
+            (string_bytes order.now.out)) }
+        ensures others { (n : List ℕ) → n ≢ string_bytes order.now.out
+            → F.bytes files.new n ≡ F.bytes files.old n }
+        ensures unwritten { OnErr result (KeepsFiles (F.bytes files.old) (F.bytes files.new)) }
+        ensures apart { OnOk result (string_bytes order.now.out ≢ string_bytes order.now.circuit) }
+    {
+        let room = Vec::with_capacity(self.alloc, ROOM)?;
+        let (out, source) = (order.out.as_str(), order.circuit.as_str());
+        let mut sink = files.create(out, source)?;
+        let written = write_labels(&mut sink, self.circuit, self.seed, order.index, bits);
+        let count = keep_written(files, out, sink, written)?;
+        Ok(wrote_line(room, count))
+    }
 }

@@ -14,26 +14,23 @@ ghost use Rattle.gc_command.specs.Job.{DecodeTo, HasJobFault};
 ghost use Rattle.gc_command.specs.Lines.{form_by_flag};
 ghost use Rattle.gc_command.specs.Eval.{AreEvalFiles, AreFilesGiven, HasFilesFault, AnswersEval, HasEvalFault, IsEvalFault};
 
+use crate::binder::Binder;
 use crate::context::Context;
 use crate::digest::with_digest;
 use crate::evaluated_files::{are_regular, read_garbled_file, read_label_files};
 use crate::fault::Fault;
-use crate::job::evaluate_files;
+use crate::job::Given;
 use crate::lines::output_lines;
 use crate::progress::{Progress, Stage};
 use crate::value_form::ValueForm;
 use gc_circuit::{Circuit, ReadFault};
 use gc_disk::Files;
-use gc_file::{Garbled, LabelFile};
 use gc_job::BindFault;
 use gc_order::EvalOrder;
 use std::alloc::Allocator;
 use std::sync::Wait;
 use std::thread;
 use std::thread::Threads;
-
-/// A garbled file, and label files.
-type Given<A> = (Garbled<A>, Vec<LabelFile<A>, A>);
 
 /// Evaluates the circuit of a file from the garbled file and the label files of these names, with this many workers,
 /// and returns the lines of the output values that they decode to, in this form. The files are not trusted.
@@ -198,11 +195,14 @@ fn evaluate_given<R: Threads + Wait + Sync, A: Allocator + Copy + Send + Sync, P
         × DecodeTo circuit.now given.0 given.1.items bits.items)
         (HasJobFault circuit.now given.0 given.1.items order.now.workers) }
 {
-    let (rt, alloc, workers) = (context.rt, context.alloc, order.workers);
     let gates = circuit.gates();
     context.progress.begin(3, 3, Stage::Evaluating { gates });
-    let (garbled, labels) = given;
-    let named = garbled.digest();
-    let outputs = evaluate_files(rt, alloc, circuit, &named, garbled, &labels, workers);
+    let named = given.0.digest();
+    let binder = Binder {
+        alloc: context.alloc,
+        circuit,
+        digest: &named,
+    };
+    let outputs = binder.evaluate_files(context.rt, given, order.workers);
     (named, outputs)
 }

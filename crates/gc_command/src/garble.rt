@@ -17,7 +17,7 @@ use crate::digest::with_digest;
 use crate::fault::Fault;
 use crate::garbling;
 use crate::progress::{Progress, Stage};
-use crate::wrote::{ROOM, keep_written};
+use crate::wrote::{ROOM, keep_written, wrote_line};
 use gc_circuit::Circuit;
 use gc_disk::Files;
 use gc_file::{GarbledSource, Trailer, write_garbled_file};
@@ -134,5 +134,6 @@ fn write_garbling<A: Allocator + Copy, F: Files>(
     let (out, source) = (order.out.as_str(), order.circuit.as_str());
     let mut sink = files.create(out, source)?;
     let written = write_garbled_file(&mut sink, of, Trailer::Written);
-    keep_written(files, out, sink, written, room)
+    let count = keep_written(files, out, sink, written)?;
+    Ok(wrote_line(room, count))
 }

@@ -9,11 +9,11 @@ ghost use Rattle.gc_disk.specs.Files.{HasFailed};
 ghost use Rattle.gc_command.specs.Lines.{form_by_flag};
 ghost use Rattle.gc_command.specs.Jobs.{AnswersJobs, HasJobsFault, jobs_lines};
 
+use crate::binder::Binder;
 use crate::circuit_file::read_circuit_and_digest;
 use crate::context::Context;
 use crate::fault::Fault;
 use crate::lines::push_output_lines;
-use crate::listed_job::read_listed_jobs;
 use crate::progress::{Progress, Stage};
 use crate::value_form::ValueForm;
 use gc_bank::evaluate_jobs;
@@ -45,7 +45,12 @@ pub fn jobs<R: Threads + Sync, A: Allocator + Copy + Send + Sync, F: Files, P: P
     let (name, list) = (order.circuit.as_str(), order.list.as_str());
     progress.begin(1, 3, Stage::ReadingCircuit);
     let (circuit, digest) = read_circuit_and_digest(rt, alloc, name, files)?;
-    let jobs = read_listed_jobs(alloc, &circuit, &digest, list, files, progress)?;
+    let binder = Binder {
+        alloc,
+        circuit: &circuit,
+        digest: &digest,
+    };
+    let jobs = binder.read_listed_jobs(list, files, progress)?;
     progress.begin(3, 3, Stage::EvaluatingJobs { jobs: jobs.len() });
     let outputs = evaluate_listed(rt, alloc, &jobs, order.workers)?;
     let form = ValueForm::by_flag(order.hex);

@@ -8,10 +8,11 @@ ghost use Rattle.gc_command.specs.Labels.{label_digits, wire_line};
 
 use crate::circuit_file::read_circuit;
 use crate::fault::Fault;
+use crate::garbler::Garbler;
 use crate::set_wires::SetWires;
 use crate::values::read_values;
 use arrayvec::ArrayVec;
-use gc_circuit::{Circuit, ReadFault, wire_bits};
+use gc_circuit::{ReadFault, wire_bits};
 use gc_disk::Files;
 use gc_half::{encode, garble_one_thread};
 use gc_label::{Label, Offset, Seed, offset};
@@ -78,40 +79,46 @@ pub fn labels<A: Allocator + Copy, F: Files>(
     let circuit = read_circuit(alloc, name, files)?;
     let seed = Seed::from_hex(seed)?;
     let values = read_values(alloc, circuit.input_widths(), &order.values)?;
-    lines_of(alloc, &circuit, &seed, order.from, order.count, &values)
+    let garbler = Garbler {
+        alloc,
+        circuit: &circuit,
+        seed: &seed,
+    };
+    garbler.lines_of(order.from, order.count, &values)
 }
 
-/// The lines of the circuit's wires under a seed for these values. The row pairs are dropped before the bits are made.
-/// The caller ensures that the values fit the circuit.
-fn lines_of<A: Allocator + Copy>(
-    alloc: A,
-    circuit: &Circuit<A>,
-    seed: &Seed,
-    from: u32,
-    count: u32,
-    values: &[Vec<bool, A>],
-) -> Result<LabelLines<A>, Fault>
-    requires { Fits circuit.now (map (λ v. v.items) values.now) }
-    ensures lines { IfOk result (AreLabelLines circuit.now seed.now
-        (map (λ v. v.items) values.now) from count) }
-    ensures fault { IfErr result IsWantOfMemory }
-{
-    let Ok(garbling) = garble_one_thread(alloc, circuit, seed) else {
-        return Err(Fault::Garbling(WorkFault::Memory));
-    };
-    let zero_labels = garbling.into_zero_labels();
-    let Ok(bits) = wire_bits(alloc, circuit, values) else {
-        return Err(Fault::Circuit(ReadFault::Memory));
-    };
-    let Ok(wires) = SetWires::new(alloc, circuit, from, count) else {
-        return Err(Fault::Memory);
-    };
-    Ok(LabelLines {
-        wires,
-        zero_labels,
-        offset: offset(seed),
-        bits,
-    })
+impl<A: Allocator + Copy> Garbler<'_, A> {
+    /// The lines of the circuit's wires under the seed for these values. The row pairs are dropped before the bits are
+    /// made. The caller ensures that the values fit the circuit.
+    fn lines_of(
+        &self,
+        from: u32,
+        count: u32,
+        values: &[Vec<bool, A>],
+    ) -> Result<LabelLines<A>, Fault>
+        requires { Fits self.now.circuit.now (map (λ v. v.items) values.now) }
+        ensures lines { IfOk result (AreLabelLines self.now.circuit.now self.now.seed.now
+            (map (λ v. v.items) values.now) from count) }
+        ensures fault { IfErr result IsWantOfMemory }
+    {
+        let (alloc, circuit) = (self.alloc, self.circuit);
+        let Ok(garbling) = garble_one_thread(alloc, circuit, self.seed) else {
+            return Err(Fault::Garbling(WorkFault::Memory));
+        };
+        let zero_labels = garbling.into_zero_labels();
+        let Ok(bits) = wire_bits(alloc, circuit, values) else {
+            return Err(Fault::Circuit(ReadFault::Memory));
+        };
+        let Ok(wires) = SetWires::new(alloc, circuit, from, count) else {
+            return Err(Fault::Memory);
+        };
+        Ok(LabelLines {
+            wires,
+            zero_labels,
+            offset: offset(self.seed),
+            bits,
+        })
+    }
 }
 
 impl<A: Allocator> LabelLines<A> {

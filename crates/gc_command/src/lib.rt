@@ -5,6 +5,7 @@
 
 pub mod audit;
 mod audit_lines;
+mod binder;
 pub mod check;
 mod circuit_file;
 mod context;
@@ -14,6 +15,7 @@ pub mod eval;
 mod evaluated_files;
 mod fault;
 pub mod garble;
+mod garbler;
 mod garbling;
 mod job;
 mod job_list;

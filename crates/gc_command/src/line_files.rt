@@ -8,10 +8,10 @@ ghost use Rattle.gc_disk.specs.Files.{HasFailed};
 ghost use Rattle.gc_command.specs.Jobs.{HasNamedFault, NameJob};
 ghost use Rattle.gc_command.specs.LineFiles.{AreNamed, MakeJob, MakeNoJob, are_whole, garbled_bytes, trailer_due};
 
+use crate::binder::Binder;
 use crate::evaluated_files::{are_regular, read_garbled_file, read_label_files};
 use crate::fault::Fault;
 use crate::job_list::words_of_line;
-use gc_circuit::Circuit;
 use gc_disk::Files;
 use gc_file::{LabelFile, read_garbled_by_digest};
 use gc_job::Job;
@@ -74,30 +74,55 @@ pub fn read_line<A: Allocator + Copy, F: Files>(alloc: A, line: &str, files: &mu
     }
 }
 
-/// The job that the files of a line make. The caller ensures that `digest` is that of the circuit's canonical text, and
-/// `trailer` that of the garbled file's bytes before its trailer. The bytes are dropped.
-pub fn job_of_files<'c, A: Allocator + Copy>(
-    alloc: A,
-    circuit: &'c Circuit<A>,
-    digest: &[u8; 32],
-    files: LineFiles<A>,
-    trailer: &[u8; 32],
-) -> Result<Job<'c, A, A>, Fault>
-    requires digest { digest.now ≡ sha256 (canonical_text circuit.now) }
-    requires trailer { trailer.now ≡ trailer_due files }
-    ensures made { IfOk result (MakeJob circuit.now files) }
-    ensures fault { IfErr result (MakeNoJob circuit.now files) }
-{
-    match files {
-        LineFiles::Unread(fault) => Err(fault),
-        LineFiles::Unlabelled(garbled, fault) => {
-            read_garbled_by_digest(alloc, &garbled, trailer)?;
-            Err(fault)
+impl<'c, A: Allocator + Copy> Binder<'c, A> {
+    /// The job that the files of a line make. The caller ensures that the digest is the circuit's, and `trailer` that of
+    /// the garbled file's bytes before its trailer. The bytes are dropped.
+    pub fn job_of_files(
+        &self,
+        files: LineFiles<A>,
+        trailer: &[u8; 32],
+    ) -> Result<Job<'c, A, A>, Fault>
+        requires digest { self.now.digest.now ≡ sha256 (canonical_text self.now.circuit.now) }
+        requires trailer { trailer.now ≡ trailer_due files }
+        ensures made { IfOk result (MakeJob self.now.circuit.now files) }
+        ensures fault { IfErr result (MakeNoJob self.now.circuit.now files) }
+    {
+        match files {
+            LineFiles::Unread(fault) => Err(fault),
+            LineFiles::Unlabelled(garbled, fault) => {
+                read_garbled_by_digest(self.alloc, &garbled, trailer)?;
+                Err(fault)
+            }
+            LineFiles::Whole(garbled, labels) => {
+                let garbled = read_garbled_by_digest(self.alloc, &garbled, trailer)?;
+                Ok(Job::bind_by_digest(self.alloc, self.circuit, self.digest, garbled, &labels)?)
+            }
         }
-        LineFiles::Whole(garbled, labels) => {
-            let garbled = read_garbled_by_digest(alloc, &garbled, trailer)?;
-            Ok(Job::bind_by_digest(alloc, circuit, digest, garbled, &labels)?)
-        }
+    }
+
+    /// The job that a line names. Each of its files is read and checked before the next is opened. The caller ensures
+    /// that the digest is the circuit's, and that the line has a token.
+    pub fn read_job<F: Files>(
+        &self,
+        line: &str,
+        files: &mut F,
+    ) -> Result<Job<'c, A, A>, Fault>
+        requires digest { self.now.digest.now ≡ sha256 (canonical_text self.now.circuit.now) }
+        requires words { 0 < length (tokens line.now) }
+        ensures named { IfOk result
+            (NameJob (F.bytes files.old) self.now.circuit.now (tokens line.now)) }
+        ensures fault { IfErr result (HasNamedFault (F.bytes files.old)
+            (HasFailed (F.failures files.old) (F.failures files.new)) self.now.circuit.now (tokens line.now)) }
+        ensures counted { OnOk result (F.failures files.new ≡ F.failures files.old) }
+        ensures same { (n : List ℕ) → F.bytes files.new n ≡ F.bytes files.old n }
+    {
+        let words = words_of_line(self.alloc, line)?;
+        let Some((garbled, labels)) = words.split_first() else {
+            unreachable!()
+        };
+        let garbled = read_garbled_file(self.alloc, garbled, files)?;
+        let labels = read_label_files(self.alloc, labels, files)?;
+        Ok(Job::bind_by_digest(self.alloc, self.circuit, self.digest, garbled, &labels)?)
     }
 }
 
@@ -111,31 +136,4 @@ pub fn is_regular_line<A: Allocator + Copy, F: Files>(alloc: A, line: &str, file
         },
         Err(_) => false,
     }
-}
-
-/// The job that a line names. Each of its files is read and checked before the next is opened. The caller ensures that
-/// `digest` is that of the circuit's canonical text, and that the line has a token.
-pub fn read_job<'c, A: Allocator + Copy, F: Files>(
-    alloc: A,
-    circuit: &'c Circuit<A>,
-    digest: &[u8; 32],
-    line: &str,
-    files: &mut F,
-) -> Result<Job<'c, A, A>, Fault>
-    requires digest { digest.now ≡ sha256 (canonical_text circuit.now) }
-    requires words { 0 < length (tokens line.now) }
-    ensures named { IfOk result
-        (NameJob (F.bytes files.old) circuit.now (tokens line.now)) }
-    ensures fault { IfErr result (HasNamedFault (F.bytes files.old)
-        (HasFailed (F.failures files.old) (F.failures files.new)) circuit.now (tokens line.now)) }
-    ensures counted { OnOk result (F.failures files.new ≡ F.failures files.old) }
-    ensures same { (n : List ℕ) → F.bytes files.new n ≡ F.bytes files.old n }
-{
-    let words = words_of_line(alloc, line)?;
-    let Some((garbled, labels)) = words.split_first() else {
-        unreachable!()
-    };
-    let garbled = read_garbled_file(alloc, garbled, files)?;
-    let labels = read_label_files(alloc, labels, files)?;
-    Ok(Job::bind_by_digest(alloc, circuit, digest, garbled, &labels)?)
 }

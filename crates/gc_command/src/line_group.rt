@@ -9,10 +9,10 @@ ghost use Rattle.gc_disk.specs.Files.{HasFailed};
 ghost use Rattle.gc_command.specs.Jobs.{HasLinesFault, NameJobs};
 ghost use Rattle.gc_command.specs.LineFiles.{AreReadInTurn, HasMakingFault, MakeJobs, trailer_due};
 
+use crate::binder::Binder;
 use crate::fault::Fault;
-use crate::line_files::{LineFiles, job_of_files, read_job, read_line};
+use crate::line_files::{LineFiles, read_line};
 use crate::progress::{Progress, Stage};
-use gc_circuit::Circuit;
 use gc_disk::Files;
 use gc_file::before_trailer;
 use gc_job::Job;
@@ -39,61 +39,80 @@ impl<'a, P: Progress> LineSteps<'a, P> {
     }
 }
 
-/// The jobs that at most eight lines name. Of one line each file is checked before the next is opened. The caller
-/// ensures that this is the digest of the circuit's canonical text, and that each line has a token.
-pub fn read_group<'c, A: Allocator + Copy, F: Files, P: Progress>(
-    alloc: A,
-    circuit: &'c Circuit<A>,
-    digest: &[u8; 32],
-    lines: &[&str],
-    files: &mut F,
-    steps: &LineSteps<'_, P>,
-) -> Result<Vec<Job<'c, A, A>, A>, Fault>
-    requires count { length lines.now ≤ SIDE_BY_SIDE }
-    requires digest { digest.now ≡ sha256 (canonical_text circuit.now) }
-    requires words { All (λ words. 0 < length words) (map (λ line. tokens line.now) lines.now) }
-    ensures named { IfOk result (λ jobs. NameJobs (F.bytes files.old) circuit.now
-        (map (λ line. tokens line.now) lines.now) jobs.items) }
-    ensures fault { IfErr result (HasLinesFault (F.bytes files.old)
-        (HasFailed (F.failures files.old) (F.failures files.new)) circuit.now
-        (map (λ line. tokens line.now) lines.now)) }
-    ensures counted { OnOk result (F.failures files.new ≡ F.failures files.old) }
-    ensures same { (n : List ℕ) → F.bytes files.new n ≡ F.bytes files.old n }
-{
-    if let [line] = lines {
-        steps.begin(0);
-        let mut jobs = Vec::with_capacity(alloc, 1)?;
-        jobs.push(read_job(alloc, circuit, digest, line, files)?)?;
-        return Ok(jobs);
+impl<'c, A: Allocator + Copy> Binder<'c, A> {
+    /// The jobs that at most eight lines name. Of one line each file is checked before the next is opened. The caller
+    /// ensures that the digest is the circuit's, and that each line has a token.
+    pub fn read_group<F: Files, P: Progress>(
+        &self,
+        lines: &[&str],
+        files: &mut F,
+        steps: &LineSteps<'_, P>,
+    ) -> Result<Vec<Job<'c, A, A>, A>, Fault>
+        requires count { length lines.now ≤ SIDE_BY_SIDE }
+        requires digest { self.now.digest.now ≡ sha256 (canonical_text self.now.circuit.now) }
+        requires words { All (λ words. 0 < length words) (map (λ line. tokens line.now) lines.now) }
+        ensures named { IfOk result (λ jobs. NameJobs (F.bytes files.old) self.now.circuit.now
+            (map (λ line. tokens line.now) lines.now) jobs.items) }
+        ensures fault { IfErr result (HasLinesFault (F.bytes files.old)
+            (HasFailed (F.failures files.old) (F.failures files.new)) self.now.circuit.now
+            (map (λ line. tokens line.now) lines.now)) }
+        ensures counted { OnOk result (F.failures files.new ≡ F.failures files.old) }
+        ensures same { (n : List ℕ) → F.bytes files.new n ≡ F.bytes files.old n }
+    {
+        if let [line] = lines {
+            steps.begin(0);
+            let mut jobs = Vec::with_capacity(self.alloc, 1)?;
+            jobs.push(self.read_job(line, files)?)?;
+            return Ok(jobs);
+        }
+        self.read_ahead(lines, files, steps)
     }
-    read_ahead(alloc, circuit, digest, lines, files, steps)
-}
 
-/// The jobs that at most eight lines name, as [`read_group`] returns them. The files of the lines are read in turn, up
-/// to the first fault of one that can't be read, or of a label file. Then their garbled files are digested side by
-/// side, and checked and bound in turn: so the fault is that of the first line that names no job.
-fn read_ahead<'c, A: Allocator + Copy, F: Files, P: Progress>(
-    alloc: A,
-    circuit: &'c Circuit<A>,
-    digest: &[u8; 32],
-    lines: &[&str],
-    files: &mut F,
-    steps: &LineSteps<'_, P>,
-) -> Result<Vec<Job<'c, A, A>, A>, Fault>
-    requires count { length lines.now ≤ SIDE_BY_SIDE }
-    requires digest { digest.now ≡ sha256 (canonical_text circuit.now) }
-    requires words { All (λ words. 0 < length words) (map (λ line. tokens line.now) lines.now) }
-    ensures named { IfOk result (λ jobs. NameJobs (F.bytes files.old) circuit.now
-        (map (λ line. tokens line.now) lines.now) jobs.items) }
-    ensures fault { IfErr result (HasLinesFault (F.bytes files.old)
-        (HasFailed (F.failures files.old) (F.failures files.new)) circuit.now
-        (map (λ line. tokens line.now) lines.now)) }
-    ensures counted { OnOk result (F.failures files.new ≡ F.failures files.old) }
-    ensures same { (n : List ℕ) → F.bytes files.new n ≡ F.bytes files.old n }
-{
-    let read = read_lines(alloc, lines, files, steps)?;
-    let trailers = trailers_due(alloc, &read)?;
-    jobs_of_files(alloc, circuit, digest, read, &trailers)
+    /// The jobs that at most eight lines name, as [`read_group`](Self::read_group) returns them. The files of the lines are read in turn, up
+    /// to the first fault of one that can't be read, or of a label file. Then their garbled files are digested side by
+    /// side, and checked and bound in turn: so the fault is that of the first line that names no job.
+    fn read_ahead<F: Files, P: Progress>(
+        &self,
+        lines: &[&str],
+        files: &mut F,
+        steps: &LineSteps<'_, P>,
+    ) -> Result<Vec<Job<'c, A, A>, A>, Fault>
+        requires count { length lines.now ≤ SIDE_BY_SIDE }
+        requires digest { self.now.digest.now ≡ sha256 (canonical_text self.now.circuit.now) }
+        requires words { All (λ words. 0 < length words) (map (λ line. tokens line.now) lines.now) }
+        ensures named { IfOk result (λ jobs. NameJobs (F.bytes files.old) self.now.circuit.now
+            (map (λ line. tokens line.now) lines.now) jobs.items) }
+        ensures fault { IfErr result (HasLinesFault (F.bytes files.old)
+            (HasFailed (F.failures files.old) (F.failures files.new)) self.now.circuit.now
+            (map (λ line. tokens line.now) lines.now)) }
+        ensures counted { OnOk result (F.failures files.new ≡ F.failures files.old) }
+        ensures same { (n : List ℕ) → F.bytes files.new n ≡ F.bytes files.old n }
+    {
+        let read = read_lines(self.alloc, lines, files, steps)?;
+        let trailers = trailers_due(self.alloc, &read)?;
+        self.jobs_of_files(read, &trailers)
+    }
+
+    /// The jobs that the files of at most eight lines make. The caller ensures that the digest is the circuit's, and that
+    /// `trailers` begin with those that are due. The bytes of each garbled file are dropped once it is read.
+    fn jobs_of_files(
+        &self,
+        read: Vec<LineFiles<A>, A>,
+        trailers: &[[u8; 32]; SIDE_BY_SIDE],
+    ) -> Result<Vec<Job<'c, A, A>, A>, Fault>
+        requires digest { self.now.digest.now ≡ sha256 (canonical_text self.now.circuit.now) }
+        requires count { length read.items ≤ SIDE_BY_SIDE }
+        requires trailers { take (length read.items) trailers.now ≡ map trailer_due read.items }
+        ensures made { IfOk result (λ jobs. MakeJobs self.now.circuit.now read.items jobs.items) }
+        ensures fault { IfErr result (HasMakingFault self.now.circuit.now read.items) }
+    {
+        let mut jobs = Vec::with_capacity(self.alloc, read.len())?;
+        for files in read {
+            let trailer = &trailers[jobs.len()];
+            jobs.push(self.job_of_files(files, trailer)?)?;
+        }
+        Ok(jobs)
+    }
 }
 
 /// The files of lines, read in turn, up to the first fault of one that can't be read, or of a label file. The caller
@@ -137,28 +156,4 @@ fn trailers_due<A: Allocator + Copy>(
         .map(|files| before_trailer(files.garbled_bytes()))
         .collect(alloc)?;
     Ok(digest_eight(&messages))
-}
-
-/// The jobs that the files of at most eight lines make. The caller ensures that `digest` is that of the circuit's
-/// canonical text, and that `trailers` begin with those that are due. The bytes of each garbled file are dropped once
-/// it is read.
-fn jobs_of_files<'c, A: Allocator + Copy>(
-    alloc: A,
-    circuit: &'c Circuit<A>,
-    digest: &[u8; 32],
-    read: Vec<LineFiles<A>, A>,
-    trailers: &[[u8; 32]; SIDE_BY_SIDE],
-) -> Result<Vec<Job<'c, A, A>, A>, Fault>
-    requires digest { digest.now ≡ sha256 (canonical_text circuit.now) }
-    requires count { length read.items ≤ SIDE_BY_SIDE }
-    requires trailers { take (length read.items) trailers.now ≡ map trailer_due read.items }
-    ensures made { IfOk result (λ jobs. MakeJobs circuit.now read.items jobs.items) }
-    ensures fault { IfErr result (HasMakingFault circuit.now read.items) }
-{
-    let mut jobs = Vec::with_capacity(alloc, read.len())?;
-    for files in read {
-        let trailer = &trailers[jobs.len()];
-        jobs.push(job_of_files(alloc, circuit, digest, files, trailer)?)?;
-    }
-    Ok(jobs)
 }

@@ -13,7 +13,7 @@ use crate::circuit_file::read_circuit;
 use crate::context::Context;
 use crate::fault::Fault;
 use crate::progress::{Progress, Stage};
-use crate::wrote::{ROOM, keep_written, write_bytes};
+use crate::wrote::{ROOM, keep_written, write_bytes, wrote_line};
 use gc_circuit::{Circuit, Memory};
 use gc_depth::order_by_depth;
 use gc_disk::Files;
@@ -83,5 +83,6 @@ fn write_text<A: Allocator, F: Files>(
     let (out, source) = (order.out.as_str(), order.circuit.as_str());
     let mut sink = files.create(out, source)?;
     let written = write_bytes(&mut sink, text);
-    keep_written(files, out, sink, written, room)
+    let count = keep_written(files, out, sink, written)?;
+    Ok(wrote_line(room, count))
 }

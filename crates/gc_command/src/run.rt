@@ -8,13 +8,13 @@ ghost use Rattle.gc_command.specs.Input.{IsInput};
 ghost use Rattle.gc_command.specs.Lines.{form_by_flag};
 ghost use Rattle.gc_command.specs.Run.{AnswersRun, HasRunFault, IsInputFault};
 
+use crate::binder::Binder;
 use crate::context::Context;
 use crate::digest::with_digest;
 use crate::fault::Fault;
+use crate::garbler::Garbler;
 use crate::garbling::garble;
-use crate::job::evaluate_files;
 use crate::lines::output_lines;
-use crate::own_files::{own_garbled, own_labels};
 use crate::progress::{Progress, Stage};
 use crate::value_form::ValueForm;
 use crate::values::read_values;
@@ -63,11 +63,21 @@ pub fn run<R: Threads + Wait + Sync, A: Allocator + Copy + Send + Sync, F: Files
     )?;
     drop(bytes);
     let (garbling, (seed, values)) = made?;
-    let garbled = own_garbled(alloc, &circuit, &digest, garbling, &seed)?;
-    let labels = own_labels(alloc, &circuit, &seed, &values)?;
+    let garbler = Garbler {
+        alloc,
+        circuit: &circuit,
+        seed: &seed,
+    };
+    let garbled = garbler.own_garbled(&digest, garbling)?;
+    let labels = garbler.own_labels(&values)?;
     let gates = circuit.gates();
     context.progress.begin(3, 3, Stage::Evaluating { gates });
-    let outputs = evaluate_files(rt, alloc, &circuit, &digest, garbled, &labels, 1)?;
+    let binder = Binder {
+        alloc,
+        circuit: &circuit,
+        digest: &digest,
+    };
+    let outputs = binder.evaluate_files(rt, (garbled, labels), 1)?;
     let form = ValueForm::by_flag(order.hex);
     Ok(output_lines(alloc, form, circuit.output_widths(), &outputs)?)
 }

@@ -1,10 +1,10 @@
 //! Files that a command has written, and the line that it prints of them.
 
-ghost use Rattle.std.specs.Prelude.{◌≡◌, ◌<◌, ◌≤◌, ◌≢◌, ℕ, List, [], Some, IfOk, IfErr, IsOk, OnOk, OnErr, vec_capacity};
+ghost use Rattle.std.specs.Prelude.{◌≡◌, ◌<◌, ◌≤◌, ◌≢◌, ℕ, List, [], Some, length, IfOk, IfErr, IsOk, OnOk, OnErr, vec_capacity};
 ghost use Rattle.gc_file.specs.Counted.{CountsFailure};
 ghost use Rattle.gc_file.specs.Written.{IsWritten};
 ghost use Rattle.gc_disk.specs.Files.{HasFailed};
-ghost use Rattle.gc_command.specs.Wrote.{HasWritten, KeepsFiles, wrote_line};
+ghost use Rattle.gc_command.specs.Wrote.{KeepsFiles, wrote_line};
 
 use crate::fault::Fault;
 use gc_disk::Files;
@@ -15,22 +15,18 @@ use std::alloc::Allocator;
 /// Room for the longest line: `wrote `, the digits of a 64-bit number, and a line feed.
 pub const ROOM: usize = 27;
 
-/// Keeps the sink that a file was written to, and returns the line that states the file's bytes. At a fault the file
-/// stays as it is. The caller ensures that `room` is empty and holds [`ROOM`] bytes, so that no memory is taken, and
-/// that a sink whose writing failed has counted a failure.
-pub fn keep_written<A: Allocator, F: Files>(
+/// Keeps the sink that a file was written to, and returns the number of the file's bytes. At a fault the file stays as
+/// it is. The caller ensures that a sink whose writing failed has counted a failure.
+pub fn keep_written<F: Files>(
     files: &mut F,
     name: &str,
     sink: F::Sink,
     written: Result<u64, WriteFault>,
-    room: Vec<u8, A>,
-) -> Result<Vec<u8, A>, Fault>
-    requires empty { room.items ≡ [] }
-    requires room { ROOM ≤ vec_capacity room }
+) -> Result<u64, Fault>
     requires failed { OnErr written (0 < F.Sink.failures sink) }
-    ensures written { IfOk result (λ line. (file : List ℕ)
+    ensures written { IfOk result (λ count. (file : List ℕ)
         → IsWritten file written (Some []) (F.Sink.taken sink)
-        → HasWritten file (F.bytes files.new name.now) line.items) }
+        → (F.bytes files.new name.now ≡ Some file) × (count ≡ length file)) }
     ensures all { OnOk result (IsOk written) }
     ensures fault { IfErr result (λ fault. fault ≡ Fault.CannotWrite) }
     ensures cause { OnErr result
@@ -41,7 +37,7 @@ pub fn keep_written<A: Allocator, F: Files>(
     match written {
         Ok(count) => {
             files.keep(name, sink)?;
-            Ok(wrote_line(room, count))
+            Ok(count)
         }
         Err(_) => {
             files.discard(name, sink);
@@ -65,8 +61,9 @@ pub fn write_bytes<S: Sink>(sink: &mut S, bytes: &[u8]) -> Result<u64, WriteFaul
     Ok(sent as u64)
 }
 
-/// The line that states a number of bytes, in `room`, under the same condition on it.
-fn wrote_line<A: Allocator>(room: Vec<u8, A>, count: u64) -> Vec<u8, A>
+/// The line that states a number of bytes. The caller ensures that `room` is empty and holds [`ROOM`] bytes, so that no
+/// memory is taken.
+pub fn wrote_line<A: Allocator>(room: Vec<u8, A>, count: u64) -> Vec<u8, A>
     requires empty { room.items ≡ [] }
     requires room { ROOM ≤ vec_capacity room }
     ensures { result.items ≡ wrote_line count }

@@ -1,7 +1,7 @@
 //! Faults of binding a job, and of evaluating it.
 
-use crate::explanation::circuit_of;
-use crate::listed::{JobNames, job_names, last_jobs, with_line_of};
+use crate::ended::Ended;
+use crate::listed::JobNames;
 use crate::told::{Told, alone, on_file};
 use gc_circuit::Circuit;
 use gc_disk::Reread;
@@ -10,85 +10,101 @@ use gc_job::{BindFault, Job};
 use gc_order::{JobsOrder, Order};
 use std::alloc::{AllocError, Allocator};
 
-/// Explains why files are no job for the circuit: those of the job whose file was opened last.
-pub(crate) fn told_of_binding<A: Allocator + Copy, F: Reread>(
-    alloc: A,
-    order: &Order,
-    files: &F,
-    opened: u64,
-    fault: BindFault,
-) -> Option<Told<A>> {
-    let text = files.read_again(alloc, circuit_of(order))?;
-    let circuit = Circuit::read(alloc, &text).ok()?;
-    let names = match order {
-        Order::Jobs(jobs) => unbound_names(alloc, &circuit, jobs, files, opened, fault)?,
-        _ => job_names(alloc, order, files, opened)?,
-    };
-    let told = match fault {
-        BindFault::OtherCircuit | BindFault::OtherCounts => {
-            told_of_garbled(alloc, &circuit, &names, files, fault)?
-        }
-        _ => told_of_labels(alloc, &circuit, &names, files, fault)?,
-    };
-    let Told { place, sentence } = told;
-    Some(Told {
-        place,
-        sentence: with_line_of(alloc, order, &names, sentence).ok()?,
-    })
-}
-
-/// The names of the first of the last jobs of a list whose files have this fault of binding.
-fn unbound_names<A: Allocator + Copy, F: Reread>(
-    alloc: A,
-    circuit: &Circuit<A>,
-    jobs: &JobsOrder,
-    files: &F,
-    opened: u64,
-    fault: BindFault,
-) -> Option<JobNames<A>> {
-    let digest = circuit.digest();
-    for names in last_jobs(alloc, jobs, files, opened)? {
-        if binding_fault(alloc, circuit, &digest, &names, files) == Some(fault) {
-            return Some(names);
-        }
+impl<A: Allocator + Copy, F: Reread> Ended<'_, A, F> {
+    /// Explains why files are no job for the circuit: those of the job whose file was opened last.
+    pub(crate) fn told_of_binding(&self, fault: BindFault) -> Option<Told<A>> {
+        let text = self.read_again(self.circuit())?;
+        let circuit = Circuit::read(self.alloc, &text).ok()?;
+        let names = match self.order {
+            Order::Jobs(jobs) => self.unbound_names(&circuit, jobs, fault)?,
+            _ => self.job_names()?,
+        };
+        let told = match fault {
+            BindFault::OtherCircuit | BindFault::OtherCounts => {
+                self.told_of_garbled(&circuit, &names, fault)?
+            }
+            _ => self.told_of_labels(&circuit, &names, fault)?,
+        };
+        let Told { place, sentence } = told;
+        Some(Told {
+            place,
+            sentence: self.with_line_of(&names, sentence).ok()?,
+        })
     }
-    None
-}
 
-/// The fault of binding the files of a job, if they can be reread and have one.
-fn binding_fault<A: Allocator + Copy, F: Reread>(
-    alloc: A,
-    circuit: &Circuit<A>,
-    digest: &[u8; 32],
-    names: &JobNames<A>,
-    files: &F,
-) -> Option<BindFault> {
-    let bytes = files.read_again(alloc, names.garbled.as_str())?;
-    let garbled = read_garbled(alloc, &bytes).ok()?;
-    let mut labels = Vec::with_capacity(alloc, names.labels.len()).ok()?;
-    for name in &names.labels {
-        let bytes = files.read_again(alloc, name.as_str())?;
-        labels.push(read_labels(alloc, &bytes).ok()?).ok()?;
+    /// The names of the first of the last jobs of a list whose files have this fault of binding.
+    fn unbound_names(
+        &self,
+        circuit: &Circuit<A>,
+        jobs: &JobsOrder,
+        fault: BindFault,
+    ) -> Option<JobNames<A>> {
+        let digest = circuit.digest();
+        for names in self.last_jobs(jobs)? {
+            if self.binding_fault(circuit, &digest, &names) == Some(fault) {
+                return Some(names);
+            }
+        }
+        None
     }
-    Job::bind_by_digest(alloc, circuit, digest, garbled, &labels).err()
-}
 
-/// Explains that a garbled file is of another circuit.
-fn told_of_garbled<A: Allocator + Copy, F: Reread>(
-    alloc: A,
-    circuit: &Circuit<A>,
-    names: &JobNames<A>,
-    files: &F,
-    fault: BindFault,
-) -> Option<Told<A>> {
-    let name = names.garbled.as_str();
-    let bytes = files.read_again(alloc, name)?;
-    let garbled = read_garbled(alloc, &bytes).ok()?;
-    let sentence = match fault {
-        BindFault::OtherCircuit => digest_sentence(alloc, circuit, &garbled),
-        _ => counts_sentence(alloc, circuit, &garbled),
-    };
-    on_file(alloc, name, sentence)
+    /// The fault of binding the files of a job, if they can be reread and have one.
+    fn binding_fault(
+        &self,
+        circuit: &Circuit<A>,
+        digest: &[u8; 32],
+        names: &JobNames<A>,
+    ) -> Option<BindFault> {
+        let bytes = self.read_again(names.garbled.as_str())?;
+        let garbled = read_garbled(self.alloc, &bytes).ok()?;
+        let mut labels = Vec::with_capacity(self.alloc, names.labels.len()).ok()?;
+        for name in &names.labels {
+            let bytes = self.read_again(name.as_str())?;
+            labels.push(read_labels(self.alloc, &bytes).ok()?).ok()?;
+        }
+        Job::bind_by_digest(self.alloc, circuit, digest, garbled, &labels).err()
+    }
+
+    /// Explains that a garbled file is of another circuit.
+    fn told_of_garbled(
+        &self,
+        circuit: &Circuit<A>,
+        names: &JobNames<A>,
+        fault: BindFault,
+    ) -> Option<Told<A>> {
+        let name = names.garbled.as_str();
+        let bytes = self.read_again(name)?;
+        let garbled = read_garbled(self.alloc, &bytes).ok()?;
+        let sentence = match fault {
+            BindFault::OtherCircuit => digest_sentence(self.alloc, circuit, &garbled),
+            _ => counts_sentence(self.alloc, circuit, &garbled),
+        };
+        on_file(self.alloc, name, sentence)
+    }
+
+    /// Explains what is wrong with the label files of a job.
+    fn told_of_labels(
+        &self,
+        circuit: &Circuit<A>,
+        names: &JobNames<A>,
+        fault: BindFault,
+    ) -> Option<Told<A>> {
+        let mut found = Vec::with_capacity(self.alloc, names.labels.len()).ok()?;
+        for name in &names.labels {
+            let bytes = self.read_again(name.as_str())?;
+            let file = read_labels(self.alloc, &bytes).ok()?;
+            if fault_of(circuit, &found, &file) == Some(fault) {
+                let sentence = label_sentence(self.alloc, circuit, &file, fault);
+                return on_file(self.alloc, name.as_str(), sentence);
+            }
+            found.push(file.index()).ok()?;
+        }
+        let index = missing_value(circuit, &found)?;
+        alone(
+            self.alloc,
+            format!(in self.alloc; "value {index}, counted from 0, has no label file"),
+        )
+    }
 }
 
 /// The sentence on a garbled file with another digest than the circuit's.
@@ -112,31 +128,6 @@ fn counts_sentence<A: Allocator + Copy>(
     let (gates, outputs) = (circuit.and_count(), circuit.output_wires());
     format!(in alloc;
         "it has {rows} row pairs and {bits} decode bits, and {gates} and {outputs} are expected"
-    )
-}
-
-/// Explains what is wrong with the label files of a job.
-fn told_of_labels<A: Allocator + Copy, F: Reread>(
-    alloc: A,
-    circuit: &Circuit<A>,
-    names: &JobNames<A>,
-    files: &F,
-    fault: BindFault,
-) -> Option<Told<A>> {
-    let mut found = Vec::with_capacity(alloc, names.labels.len()).ok()?;
-    for name in &names.labels {
-        let bytes = files.read_again(alloc, name.as_str())?;
-        let file = read_labels(alloc, &bytes).ok()?;
-        if fault_of(circuit, &found, &file) == Some(fault) {
-            let sentence = label_sentence(alloc, circuit, &file, fault);
-            return on_file(alloc, name.as_str(), sentence);
-        }
-        found.push(file.index()).ok()?;
-    }
-    let index = missing_value(circuit, &found)?;
-    alone(
-        alloc,
-        format!(in alloc; "value {index}, counted from 0, has no label file"),
     )
 }
 

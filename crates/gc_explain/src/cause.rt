@@ -1,52 +1,39 @@
 //! Files that can't be read or written.
 
-use crate::listed::with_line;
+use crate::ended::Ended;
 use crate::told::{Told, alone, on_file};
 use gc_disk::{Cause, Reread};
-use gc_order::Order;
 use std::alloc::Allocator;
 
-/// Explains why a file can't be read: the one that was opened last.
-pub(crate) fn told_of_reading<A: Allocator + Copy, F: Reread>(
-    alloc: A,
-    order: &Order,
-    files: &F,
-    opened: u64,
-) -> Option<Told<A>> {
-    let trail = files.trail();
-    let why = reason_of(trail.cause());
-    let sentence = format!(in alloc; "the file can't be read: {why}").ok()?;
-    on_file(
-        alloc,
-        trail.name(),
-        with_line(alloc, order, files, opened, sentence),
-    )
-}
-
-/// Explains why a file can't be written: the one that was opened last, or standard output where printing failed for
-/// this cause.
-pub(crate) fn told_of_writing<A: Allocator + Copy, F: Reread>(
-    alloc: A,
-    files: &F,
-    printing: Option<Cause>,
-) -> Option<Told<A>> {
-    if printing.is_some() {
-        let why = reason_of(printing);
-        return alone(
-            alloc,
-            format!(in alloc; "standard output can't be written: {why}"),
-        );
+impl<A: Allocator + Copy, F: Reread> Ended<'_, A, F> {
+    /// Explains why a file can't be read: the one that was opened last.
+    pub(crate) fn told_of_reading(&self) -> Option<Told<A>> {
+        let trail = self.files.trail();
+        let why = reason_of(trail.cause());
+        let sentence = format!(in self.alloc; "the file can't be read: {why}").ok()?;
+        on_file(self.alloc, trail.name(), self.with_line(sentence))
     }
-    let trail = files.trail();
-    let why = match trail.cause() {
-        Some(Cause::NotWritten) => "it is a name of standard output or of the circuit's file",
-        cause => reason_of(cause),
-    };
-    on_file(
-        alloc,
-        trail.name(),
-        format!(in alloc; "the file can't be written: {why}"),
-    )
+
+    /// Explains why a file can't be written: the one that was opened last, or standard output where printing failed.
+    pub(crate) fn told_of_writing(&self) -> Option<Told<A>> {
+        if self.printing.is_some() {
+            let why = reason_of(self.printing);
+            return alone(
+                self.alloc,
+                format!(in self.alloc; "standard output can't be written: {why}"),
+            );
+        }
+        let trail = self.files.trail();
+        let why = match trail.cause() {
+            Some(Cause::NotWritten) => "it is a name of standard output or of the circuit's file",
+            cause => reason_of(cause),
+        };
+        on_file(
+            self.alloc,
+            trail.name(),
+            format!(in self.alloc; "the file can't be written: {why}"),
+        )
+    }
 }
 
 /// Why a file can't be read or written.

@@ -4,7 +4,8 @@ ghost use Rattle.std.specs.Prelude.{◌≡◌, ◌≢◌, ◌<◌, IfSome};
 ghost use Rattle.gc_disk.specs.Files.{GivesFile};
 ghost use Rattle.gc_explain.specs.Explain.{HasFileFault, IsFilePlace};
 
-use crate::listed::{JobNames, last_jobs};
+use crate::ended::Ended;
+use crate::listed::JobNames;
 use crate::told::{Told, byte_place, file_place};
 use gc_disk::Reread;
 use gc_file::{FileFault, number_at, read_garbled, read_labels};
@@ -12,142 +13,126 @@ use gc_netlist::MAX_GATES;
 use gc_order::{JobsOrder, Order};
 use std::alloc::Allocator;
 
-/// Explains a fault of a file: of the one that was opened last or, where a list names the files, of the first file of
-/// the last jobs that has it.
-pub(crate) fn told_of_file<A: Allocator + Copy, F: Reread>(
-    alloc: A,
-    order: &Order,
-    files: &F,
-    opened: u64,
-    fault: FileFault,
-) -> Option<Told<A>>
-    requires { fault ≢ FileFault.Memory }
-    ensures { IfSome result (λ told. IsFilePlace (F.bytes files.now) fault told.place.items) }
-{
-    match order {
-        Order::Jobs(jobs) => told_of_listed_file(alloc, jobs, files, opened, fault),
-        _ => told_of_last_file(alloc, files, opened <= 2, fault),
-    }
-}
-
-/// Explains a fault of the file that was opened last. Where it can't be reread, or has another fault now, the place is
-/// the whole file.
-fn told_of_last_file<A: Allocator + Copy, F: Reread>(
-    alloc: A,
-    files: &F,
+/// A garbled file or a label file, by its name.
+#[derive(Drop)]
+struct NamedFile<'a> {
+    name: &'a str,
     is_garbled: bool,
-    fault: FileFault,
-) -> Option<Told<A>>
-    requires { fault ≢ FileFault.Memory }
-    ensures { IfSome result (λ told. IsFilePlace (F.bytes files.now) fault told.place.items) }
-{
-    let name = files.trail().name();
-    let place = match byte_of_fault(alloc, name, files, is_garbled, fault) {
-        Some(byte) => byte_place(alloc, name, byte).ok()?,
-        None => file_place(alloc, name).ok()?,
-    };
-    Some(Told {
-        place,
-        sentence: String::from_str(alloc, meaning_of(is_garbled, fault)).ok()?,
-    })
 }
 
-/// Explains a fault of a file that a list names, if one of the last jobs' files has it now.
-fn told_of_listed_file<A: Allocator + Copy, F: Reread>(
-    alloc: A,
-    jobs: &JobsOrder,
-    files: &F,
-    opened: u64,
-    fault: FileFault,
-) -> Option<Told<A>>
-    requires { fault ≢ FileFault.Memory }
-    ensures { IfSome result (λ told. IsFilePlace (F.bytes files.now) fault told.place.items) }
-{
-    let list = jobs.list.as_str();
-    for names in &last_jobs(alloc, jobs, files, opened)? {
-        let told = told_of_job_file(alloc, list, names, files, fault);
+impl<A: Allocator + Copy, F: Reread> Ended<'_, A, F> {
+    /// Explains a fault of a file: of the one that was opened last or, where a list names the files, of the first file
+    /// of the last jobs that has it.
+    pub(crate) fn told_of_file(&self, fault: FileFault) -> Option<Told<A>>
+        requires { fault ≢ FileFault.Memory }
+        ensures { IfSome result
+            (λ told. IsFilePlace (F.bytes self.now.files.now) fault told.place.items) }
+    {
+        match self.order {
+            Order::Jobs(jobs) => self.told_of_listed_file(jobs, fault),
+            _ => self.told_of_last_file(fault),
+        }
+    }
+
+    /// Explains a fault of the file that was opened last. Where it can't be reread, or has another fault now, the place
+    /// is the whole file.
+    fn told_of_last_file(&self, fault: FileFault) -> Option<Told<A>>
+        requires { fault ≢ FileFault.Memory }
+        ensures { IfSome result
+            (λ told. IsFilePlace (F.bytes self.now.files.now) fault told.place.items) }
+    {
+        let file = NamedFile {
+            name: self.files.trail().name(),
+            is_garbled: self.opened <= 2,
+        };
+        let place = match self.byte_of_fault(&file, fault) {
+            Some(byte) => byte_place(self.alloc, file.name, byte).ok()?,
+            None => file_place(self.alloc, file.name).ok()?,
+        };
+        Some(Told {
+            place,
+            sentence: String::from_str(self.alloc, meaning_of(file.is_garbled, fault)).ok()?,
+        })
+    }
+
+    /// Explains a fault of a file that a list names, if one of the last jobs' files has it now.
+    fn told_of_listed_file(&self, jobs: &JobsOrder, fault: FileFault) -> Option<Told<A>>
+        requires { fault ≢ FileFault.Memory }
+        ensures { IfSome result
+            (λ told. IsFilePlace (F.bytes self.now.files.now) fault told.place.items) }
+    {
+        for names in &self.last_jobs(jobs)? {
+            let told = self.told_of_job_file(names, fault);
+            if told.is_some() {
+                return told;
+            }
+        }
+        None
+    }
+
+    /// Explains the fault of the first file of a job that has it.
+    fn told_of_job_file(&self, names: &JobNames<A>, fault: FileFault) -> Option<Told<A>>
+        requires { fault ≢ FileFault.Memory }
+        ensures { IfSome result
+            (λ told. IsFilePlace (F.bytes self.now.files.now) fault told.place.items) }
+    {
+        let garbled = NamedFile {
+            name: names.garbled.as_str(),
+            is_garbled: true,
+        };
+        let told = self.told_of_named(&garbled, names, fault);
         if told.is_some() {
             return told;
         }
-    }
-    None
-}
-
-/// Explains the fault of the first file of a job that has it.
-fn told_of_job_file<A: Allocator + Copy, F: Reread>(
-    alloc: A,
-    list: &str,
-    names: &JobNames<A>,
-    files: &F,
-    fault: FileFault,
-) -> Option<Told<A>>
-    requires { fault ≢ FileFault.Memory }
-    ensures { IfSome result (λ told. IsFilePlace (F.bytes files.now) fault told.place.items) }
-{
-    let line = names.line?;
-    let told = told_of_named(
-        alloc,
-        names.garbled.as_str(),
-        files,
-        true,
-        fault,
-        line,
-        list,
-    );
-    if told.is_some() {
-        return told;
-    }
-    for label in &names.labels {
-        let told = told_of_named(alloc, label.as_str(), files, false, fault, line, list);
-        if told.is_some() {
-            return told;
+        for label in &names.labels {
+            let labels = NamedFile {
+                name: label.as_str(),
+                is_garbled: false,
+            };
+            let told = self.told_of_named(&labels, names, fault);
+            if told.is_some() {
+                return told;
+            }
         }
+        None
     }
-    None
-}
 
-/// Explains the fault of the file of this name, on this line of a list, if it has it.
-fn told_of_named<A: Allocator + Copy, F: Reread>(
-    alloc: A,
-    name: &str,
-    files: &F,
-    is_garbled: bool,
-    fault: FileFault,
-    line: u64,
-    list: &str,
-) -> Option<Told<A>>
-    requires { fault ≢ FileFault.Memory }
-    ensures { IfSome result (λ told. IsFilePlace (F.bytes files.now) fault told.place.items) }
-{
-    let byte = byte_of_fault(alloc, name, files, is_garbled, fault)?;
-    let meaning = meaning_of(is_garbled, fault);
-    Some(Told {
-        place: byte_place(alloc, name, byte).ok()?,
-        sentence: format!(in alloc; "{meaning} (line {line} of {list})").ok()?,
-    })
-}
+    /// Explains the fault of a file of a job, if it has it.
+    fn told_of_named(
+        &self,
+        file: &NamedFile<'_>,
+        names: &JobNames<A>,
+        fault: FileFault,
+    ) -> Option<Told<A>>
+        requires { fault ≢ FileFault.Memory }
+        ensures { IfSome result
+            (λ told. IsFilePlace (F.bytes self.now.files.now) fault told.place.items) }
+    {
+        let byte = self.byte_of_fault(file, fault)?;
+        let meaning = String::from_str(self.alloc, meaning_of(file.is_garbled, fault)).ok()?;
+        Some(Told {
+            place: byte_place(self.alloc, file.name, byte).ok()?,
+            sentence: self.with_line_of(names, meaning).ok()?,
+        })
+    }
 
-/// The byte at which the file of this name has this fault, if it has it.
-fn byte_of_fault<A: Allocator + Copy, F: Reread>(
-    alloc: A,
-    name: &str,
-    files: &F,
-    is_garbled: bool,
-    fault: FileFault,
-) -> Option<u64>
-    requires { fault ≢ FileFault.Memory }
-    ensures { IfSome result (λ _. IfSome (F.bytes files.now name.now) (HasFileFault fault)) }
-{
-    let bytes = files.read_again(alloc, name)?;
-    if is_garbled {
-        match read_garbled(alloc, &bytes) {
-            Err(found) if found == fault => Some(garbled_byte(&bytes, fault)),
-            _ => None,
-        }
-    } else {
-        match read_labels(alloc, &bytes) {
-            Err(found) if found == fault => Some(labels_byte(&bytes, fault)),
-            _ => None,
+    /// The byte at which a file has this fault, if it has it.
+    fn byte_of_fault(&self, file: &NamedFile<'_>, fault: FileFault) -> Option<u64>
+        requires { fault ≢ FileFault.Memory }
+        ensures { IfSome result (λ _.
+            IfSome (F.bytes self.now.files.now file.now.name.now) (HasFileFault fault)) }
+    {
+        let bytes = self.read_again(file.name)?;
+        if file.is_garbled {
+            match read_garbled(self.alloc, &bytes) {
+                Err(found) if found == fault => Some(garbled_byte(&bytes, fault)),
+                _ => None,
+            }
+        } else {
+            match read_labels(self.alloc, &bytes) {
+                Err(found) if found == fault => Some(labels_byte(&bytes, fault)),
+                _ => None,
+            }
         }
     }
 }

@@ -4,12 +4,12 @@
 mod binding;
 mod cause;
 mod circuit;
+mod ended;
 mod explanation;
 mod file;
-mod hint;
 mod listed;
 mod output;
 mod told;
 mod value;
 
-pub use explanation::explain;
+pub use ended::Ended;

@@ -1,5 +1,6 @@
 //! The files of a job, and its line in a list.
 
+use crate::ended::Ended;
 use gc_disk::Reread;
 use gc_lanes::SIDE_BY_SIDE;
 use gc_order::{JobsOrder, Order};
@@ -18,33 +19,47 @@ pub(crate) struct JobNames<A: Allocator> {
     pub(crate) line: Option<u64>,
 }
 
-/// The names of the files of the job whose file was opened last, where the order opened this many files. There are none
-/// where a list can't be reread.
-pub(crate) fn job_names<A: Allocator + Copy, F: Reread>(
-    alloc: A,
-    order: &Order,
-    files: &F,
-    opened: u64,
-) -> Option<JobNames<A>> {
-    match order {
-        Order::Eval(eval) => own_names(alloc, &eval.garbled, &eval.labels).ok(),
-        Order::Audit(audit) => own_names(alloc, &audit.garbled, &audit.labels).ok(),
-        Order::Jobs(jobs) => last_jobs(alloc, jobs, files, opened)?.pop(),
-        _ => None,
+impl<A: Allocator + Copy, F: Reread> Ended<'_, A, F> {
+    /// The names of the files of the job whose file was opened last. There are none where a list can't be reread.
+    pub(crate) fn job_names(&self) -> Option<JobNames<A>> {
+        match self.order {
+            Order::Eval(eval) => own_names(self.alloc, &eval.garbled, &eval.labels).ok(),
+            Order::Audit(audit) => own_names(self.alloc, &audit.garbled, &audit.labels).ok(),
+            Order::Jobs(jobs) => self.last_jobs(jobs)?.pop(),
+            _ => None,
+        }
     }
-}
 
-/// The names of the files of each job that may have been at work last, where this many files were opened: `jobs` opens
-/// those of up to eight lines before it checks their garbled files. There are none where the list can't be reread.
-pub(crate) fn last_jobs<A: Allocator + Copy, F: Reread>(
-    alloc: A,
-    jobs: &JobsOrder,
-    files: &F,
-    opened: u64,
-) -> Option<Vec<JobNames<A>, A>> {
-    let word = opened.checked_sub(BEFORE_JOBS + 1)?;
-    let text = files.read_again(alloc, jobs.list.as_str())?;
-    names_up_to(alloc, &text, word)
+    /// The names of the files of each job that may have been at work last: `jobs` opens those of up to eight lines
+    /// before it checks their garbled files. There are none where the list can't be reread.
+    pub(crate) fn last_jobs(&self, jobs: &JobsOrder) -> Option<Vec<JobNames<A>, A>> {
+        let word = self.opened.checked_sub(BEFORE_JOBS + 1)?;
+        let text = self.read_again(jobs.list.as_str())?;
+        names_up_to(self.alloc, &text, word)
+    }
+
+    /// A sentence on the file that was opened last, with the job's line where a list names it.
+    pub(crate) fn with_line(&self, sentence: String<A>) -> Result<String<A>, AllocError> {
+        match self.job_names() {
+            Some(names) => self.with_line_of(&names, sentence),
+            None => Ok(sentence),
+        }
+    }
+
+    /// A sentence on a file of this job, with the job's line where a list names it.
+    pub(crate) fn with_line_of(
+        &self,
+        names: &JobNames<A>,
+        sentence: String<A>,
+    ) -> Result<String<A>, AllocError> {
+        match (self.order, names.line) {
+            (Order::Jobs(jobs), Some(line)) => {
+                let (sentence, list) = (sentence.as_str(), jobs.list.as_str());
+                format!(in self.alloc; "{sentence} (line {line} of {list})")
+            }
+            _ => Ok(sentence),
+        }
+    }
 }
 
 /// The names of the files of a job that no list names.
@@ -123,34 +138,4 @@ fn names_of<A: Allocator + Copy>(alloc: A, words: &[&[u8]], line: u64) -> Option
 /// The name that a word is.
 fn name_of<A: Allocator>(alloc: A, word: &[u8]) -> Option<String<A>> {
     String::from_str(alloc, str::from_utf8(word).ok()?).ok()
-}
-
-/// A sentence on the file that was opened last, with the job's line where a list names it.
-pub(crate) fn with_line<A: Allocator + Copy, F: Reread>(
-    alloc: A,
-    order: &Order,
-    files: &F,
-    opened: u64,
-    sentence: String<A>,
-) -> Result<String<A>, AllocError> {
-    match job_names(alloc, order, files, opened) {
-        Some(names) => with_line_of(alloc, order, &names, sentence),
-        None => Ok(sentence),
-    }
-}
-
-/// A sentence on a file of this job, with the job's line where a list names it.
-pub(crate) fn with_line_of<A: Allocator + Copy>(
-    alloc: A,
-    order: &Order,
-    names: &JobNames<A>,
-    sentence: String<A>,
-) -> Result<String<A>, AllocError> {
-    match (order, names.line) {
-        (Order::Jobs(jobs), Some(line)) => {
-            let (sentence, list) = (sentence.as_str(), jobs.list.as_str());
-            format!(in alloc; "{sentence} (line {line} of {list})")
-        }
-        _ => Ok(sentence),
-    }
 }

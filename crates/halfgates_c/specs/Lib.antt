@@ -9,6 +9,7 @@ pub mod Numbers
 pub mod Places
 pub mod Reading
 pub mod Reports
+pub mod Sentences
 pub mod WireLabels
 pub mod Names
 pub mod InProgress

@@ -35,10 +35,10 @@ returns-in_err-circuit-clause-fault g c =
     rw (p.1, p.2)
     (rw (fun_ext c.read.ensures.same, c.in_ok-bytes.ensures.counted) at at_end.has)
 
-pub returns-in_err-seed-clause-fault : goal.returns-in_err-seed-clause-fault
-returns-in_err-seed-clause-fault g c =
-    let p = err_from_is_err_and c.from_residual-in_err-seed.result
-    c.from_residual-in_err-seed.ensures.1 in
+pub returns-in_err-compared-clause-fault : goal.returns-in_err-compared-clause-fault
+returns-in_err-compared-clause-fault g c =
+    let p = err_from_is_err_and c.from_residual-in_err-compared.result
+    c.from_residual-in_err-compared.ensures.1 in
     let order = c.args.order.now in
     let step = c.in_ok-circuit.ensures.made in
     let s = step.1.met.0.said-raw.1.1.1.1 in
@@ -48,7 +48,7 @@ returns-in_err-seed-clause-fault g c =
     step.0.1 step.0.2.items = subst (λ r. IfOk r (λ made. AreEvalFiles (g.F.Files.bytes c.read.new.self) (string_bytes order.circuit)
     (string_bytes order.garbled) (map string_bytes order.labels.items) made.0 made.1.1 made.1.2.items)) (sym s.1.0) s.0.ensures.1.0 in
     let seed : IsSeed (string_bytes order.seed) step.0.0 = subst (λ r. IfOk r (λ made. IsSeed (string_bytes order.seed) made.1.0)) (sym s.1.0) s.0.ensures.0 in
-    let memory : c.in_err-seed.field-0.0 ≡ work.Memory = subst (λ r. IfErr r (λ fault. fault ≡ work.Memory)) (sym w.1 ∙ c.in_err-seed.was) w.0.ensures.1.1.1.1.1.1 in
+    let memory : c.in_err-compared.field-0.0 ≡ work.Memory = subst (λ r. IfErr r (λ fault. fault ≡ work.Memory)) (sym w.1 ∙ c.in_err-compared.was) w.0.ensures.1.1.1.1.1.1 in
     rw (p.1, p.2) (
       _,
       (
@@ -68,9 +68,9 @@ returns-in-Ok-clause-answers g c =
     step.0.1 step.0.2.items = subst (λ r. IfOk r (λ made. AreEvalFiles (g.F.Files.bytes c.read.new.self) (string_bytes order.circuit)
     (string_bytes order.garbled) (map string_bytes order.labels.items) made.0 made.1.1 made.1.2.items)) (sym s.1.0) s.0.ensures.1.0 in
     let seed : IsSeed (string_bytes order.seed) step.0.0 = subst (λ r. IfOk r (λ made. IsSeed (string_bytes order.seed) made.1.0)) (sym s.1.0) s.0.ensures.0 in
-    let made = c.in_ok-seed.field-0 in
+    let made = c.in_ok-compared.compared in
     let file = step.0.1 in
-    let o = sym w.1 ∙ c.in_ok-seed.was in
+    let o = sym w.1 ∙ c.in_ok-compared.was in
     let same : made.seed ≡ step.0.0 = subst (λ r. IfOk r (λ made. made.seed ≡ step.0.0)) o w.0.ensures.0 in
     let of_version : made.version ≡ file.version = subst (λ r. IfOk r (λ made. made.version ≡ file.version)) o w.0.ensures.1.0 in
     let names : made.named ≡ file.digest = subst (λ r. IfOk r (λ made. made.named ≡ file.digest)) o w.0.ensures.1.1.0 in
@@ -85,7 +85,7 @@ returns-in-Ok-clause-answers g c =
       input = rw (fun_ext c.read.ensures.same) at files;
       seed = step.0.0;
       seed_read = seed;
-      printed = rw (c.deref.ensures.value, ours, same) at (c.in-Ok.ensures file (sym of_version)
+      printed = rw (ours, same) at (c.in-Ok.ensures file (sym of_version)
           (record {
             digest = rw (names, c.in_ok-circuit.ensures.digest)
                 at c.garbled_audit-found.ensures.digest;
@@ -93,8 +93,8 @@ returns-in-Ok-clause-answers g c =
           }));
     }
 
-pub returns-in_err-seed-clause-same : goal.returns-in_err-seed-clause-same
-returns-in_err-seed-clause-same g c = λ n.
+pub returns-in_err-compared-clause-same : goal.returns-in_err-compared-clause-same
+returns-in_err-compared-clause-same g c = λ n.
     let step = c.in_ok-circuit.ensures.made.1 in
     let s = step.met.0.said-raw.1.1.1.1 in
     let now = c.files-1.given.1 (search (step.met.1, rules)) ∙ s.1.1 in

@@ -10,7 +10,7 @@ returns g c = λ file of_version is_found.
     let none_differs = c.is_honest.result in
     let all_dealt = c.in_ok-all_dealt.all_dealt in
     let dealt = c.in_ok-all_dealt.ensures in
-    let garbled = garbling_of-IsGarbled c.args.circuit.now c.args.seed.now c.law_lawful.ensures in
+    let garbled = garbling_of-IsGarbled c.args.circuit.now c.args.compared.now.seed c.law_lawful.ensures in
     let honest_is : c.if-is_honest.is_honest ≡ none_differs && all_dealt =
     elim c.if-is_honest.branch [
       | then-is_honest w ↦ w.is_honest-is ∙ ap (λ b. b && all_dealt) (sym w.if-is_honest.true)
@@ -18,7 +18,7 @@ returns g c = λ file of_version is_found.
           ∙ ap (λ b. b && all_dealt) (sym w.if-is_honest.false)
     ] in
     record {
-      garbling = garbling_of c.args.circuit.now c.args.seed.now;
+      garbling = garbling_of c.args.circuit.now c.args.compared.now.seed;
       garbled = garbled;
       found = c.args.found.now;
       is_found = is_found;

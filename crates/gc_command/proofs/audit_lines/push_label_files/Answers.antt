@@ -13,7 +13,7 @@ loop-file-preserved g c =
     let line = verdict_line file.index c.in_ok-verdict.verdict in
     let before = c.loop-file.invariant in (
       before.0 ++ line,
-      rw c.is_dealt-all_dealt.ensures (found_more _ _ c.args.files.now c.loop-file.file-index file
+      rw c.is_dealt-all_dealt.ensures (found_more _ _ c.as_slice-files.result.now c.loop-file.file-index file
           _ _ _ c.loop-file-test.true c.file-item.is before.1 c.in_ok-verdict.ensures.verdict),
       rw (c.in_ok-push_verdict.ensures, c.index.ensures, before.2)
           (append_assoc c.args.lines.now.items before.0 line),
@@ -21,5 +21,6 @@ loop-file-preserved g c =
 
 pub returns : goal.returns
 returns g c =
-    let whole = take_all c.loop-file.file-index c.args.files.now c.loop-file-test.false in
-    rw whole at c.loop-file.invariant
+    let files = c.as_slice-files.result.now in
+    let whole = take_all c.loop-file.file-index files c.loop-file-test.false in
+    rw (whole, c.as_slice-files.ensures.value) at c.loop-file.invariant

@@ -138,11 +138,11 @@ returns-in_err-outputs-clause-fault g c =
     given
     (want-of-memory text seed c.args.order.now.workers texts (_, (_, input)) few _
     (honest-fault input.circuit.lawful honest _
-    (rw c.deref-2.ensures.value at (c.in_err-outputs.ensures.fault c.in_ok-circuit.ensures.digest)))))
+    (c.in_err-outputs.ensures.fault c.in_ok-circuit.ensures.digest))))
 
 pub output_lines-requires : goal.output_lines-requires
 output_lines-requires g c =
-    rw (c.output_widths.ensures, c.deref-3.ensures.value)
+    rw (c.output_widths.ensures, c.deref-2.ensures.value)
     (length-decoded _ c.gates-gates.ensures.lawful _ _ _
     (c.in_ok-outputs.ensures.decoded c.in_ok-circuit.ensures.digest))
 
@@ -180,8 +180,7 @@ returns-clause-answers g c =
       outputs = c.in_ok-outputs.outputs.items;
       computed =
           honest-decode input.circuit.lawful honest _
-          (rw c.deref-2.ensures.value
-          at (c.in_ok-outputs.ensures.decoded c.in_ok-circuit.ensures.digest));
+          (c.in_ok-outputs.ensures.decoded c.in_ok-circuit.ensures.digest);
       printed = rw (← c.by_flag-form.ensures) (c.in_ok-output_lines.ensures
-          ∙ ap₂ (output_lines c.by_flag-form.result) c.output_widths.ensures c.deref-3.ensures.value);
+          ∙ ap₂ (output_lines c.by_flag-form.result) c.output_widths.ensures c.deref-2.ensures.value);
     }))

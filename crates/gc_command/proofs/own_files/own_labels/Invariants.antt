@@ -1,6 +1,0 @@
-use Rattle.gc_command.proofs.Names.{take, map, AreLabelsOf}
-use Rattle.gc_command.proofs.own_files.own_labels.Given as goal
-
-abbrev pub invariant-loop-i : goal.invariant-loop-i
-invariant-loop-i g l =
-    AreLabelsOf l.circuit l.seed (take l.i (map (λ value. value.items) l.values)) l.labels.items

@@ -1,0 +1,16 @@
+//! Who garbles a circuit.
+
+use gc_circuit::Circuit;
+use gc_label::Seed;
+use std::alloc::Allocator;
+
+/// A garbler: a circuit, and the seed of its garbling.
+#[derive(Drop)]
+pub struct Garbler<'a, A: Allocator> {
+    /// The allocator.
+    pub alloc: A,
+    /// The circuit.
+    pub circuit: &'a Circuit<A>,
+    /// The seed.
+    pub seed: &'a Seed,
+}
