@@ -69,9 +69,8 @@ impl<A: Allocator + Copy, F: Reread> Ended<'_, A, F> {
             return None;
         };
         let lines = lines_of(self.alloc, text).ok()?;
-        let unknown = Some(EvalFault::UnknownOutputLabel { output });
         for (i, line) in lines.iter().enumerate() {
-            if self.fault_of_line(&circuit, &digest, line) == unknown {
+            if self.has_unknown_output(&circuit, &digest, line, output) {
                 return Some(i as u64 + 1);
             }
         }
@@ -90,8 +89,27 @@ impl<A: Allocator + Copy, F: Reread> Ended<'_, A, F> {
         }
     }
 
-    /// The fault of evaluating the job that a line names. There is none where the line names no job, or one that is
-    /// evaluated. The caller ensures that this is the digest of the circuit's canonical text.
+    /// Whether the job that a line names has this unknown output label. The caller ensures that this is the digest of
+    /// the circuit's canonical text.
+    fn has_unknown_output(
+        &self,
+        circuit: &Circuit<A>,
+        digest: &[u8; 32],
+        line: &str,
+        output: u32,
+    ) -> bool
+        requires { digest.now ≡ sha256 (canonical_text circuit.now) }
+        ensures { result ≡ true → HasUnknownOutput (F.bytes self.now.files.now) circuit.now
+            (tokens line.now) output }
+    {
+        match self.fault_of_line(circuit, digest, line) {
+            Some(EvalFault::UnknownOutputLabel { output: found }) => found == output,
+            _ => false,
+        }
+    }
+
+    /// The fault of evaluating the job that a line names, under the same condition. There is none where the line names
+    /// no job, or one that is evaluated.
     fn fault_of_line(
         &self,
         circuit: &Circuit<A>,

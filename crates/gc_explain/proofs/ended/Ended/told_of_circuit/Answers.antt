@@ -3,10 +3,12 @@ use Rattle.gc_explain.proofs.ExplainLemmas.{of-read}
 use Rattle.gc_explain.proofs.ended.Ended.told_of_circuit.Goals as goal
 
 pub returns-then-eq : goal.returns-then-eq
-returns-then-eq g c = inr (
-  c.in-Ok-Some.located,
-  search rules,
-  search rules,
-  of-read _ _ _ c.in-Some.ensures
-      (rw (c.in-Ok-Some.field-0-is, c.deref.ensures.value) at c.in-Ok-Some.ensures),
-)
+returns-then-eq g c =
+    rw (← c.circuit-name.ensures)
+    (inr (
+      c.in-Ok-Some.located,
+      search rules,
+      search rules,
+      of-read _ _ _ c.in-Some.ensures
+          (rw (c.in-Ok-Some.field-0-is, c.deref.ensures.value) at c.in-Ok-Some.ensures),
+    ))
