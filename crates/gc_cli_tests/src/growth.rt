@@ -207,13 +207,11 @@ impl<R: Threads + Wait + Sync> Trial<'_, R> {
     fn code_of_refusal(&self, printed: &str, growth: u64) -> Result<Option<u32>, Fail> {
         let heap = Refusing::nth(self.alloc, growth);
         let mut files = MemFiles::new(self.alloc, &ADDER_FILES);
-        Ok(
-            match self.outcome_of_refusal(&heap, &mut files, printed)? {
-                Outcome::Unrefused => None,
-                Outcome::Printed => Some(0),
-                Outcome::Ended(fault) => Some(fault.code()),
-            },
-        )
+        Ok(match self.outcome_of_refusal(&heap, &mut files, printed)? {
+            Outcome::Unrefused => None,
+            Outcome::Printed => Some(0),
+            Outcome::Ended(fault) => Some(fault.code()),
+        })
     }
 
     /// Asserts that growth 1, 2, 3, .. of the order has the code of its part, and that there is none after the last

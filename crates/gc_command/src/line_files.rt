@@ -102,11 +102,7 @@ impl<'c, A: Allocator + Copy> Binder<'c, A> {
 
     /// The job that a line names. Each of its files is read and checked before the next is opened. The caller ensures
     /// that the digest is the circuit's, and that the line has a token.
-    pub fn read_job<F: Files>(
-        &self,
-        line: &str,
-        files: &mut F,
-    ) -> Result<Job<'c, A, A>, Fault>
+    pub fn read_job<F: Files>(&self, line: &str, files: &mut F) -> Result<Job<'c, A, A>, Fault>
         requires digest { self.now.digest.now ≡ sha256 (canonical_text self.now.circuit.now) }
         requires words { 0 < length (tokens line.now) }
         ensures named { IfOk result

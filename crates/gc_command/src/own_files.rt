@@ -23,11 +23,7 @@ use std::alloc::Allocator;
 impl<A: Allocator + Copy> Garbler<'_, A> {
     /// The garbled file of the circuit's garbling under the seed, in version 2. The caller ensures that the digest is
     /// the circuit's.
-    pub fn own_garbled(
-        &self,
-        digest: &[u8; 32],
-        garbling: Garbling<A>,
-    ) -> Result<Garbled<A>, Fault>
+    pub fn own_garbled(&self, digest: &[u8; 32], garbling: Garbling<A>) -> Result<Garbled<A>, Fault>
         requires digest { digest.now ≡ sha256 (canonical_text self.now.circuit.now) }
         requires garbled { IsGarbled self.now.circuit.now self.now.seed.now garbling }
         ensures honest { IfOk result (IsHonestGarbled self.now.circuit.now self.now.seed.now) }
@@ -39,11 +35,7 @@ impl<A: Allocator + Copy> Garbler<'_, A> {
     }
 
     /// The bytes of the garbled file, under the same conditions. The garbling itself is dropped.
-    fn garbled_bytes(
-        &self,
-        digest: &[u8; 32],
-        garbling: Garbling<A>,
-    ) -> Result<Vec<u8, A>, Fault>
+    fn garbled_bytes(&self, digest: &[u8; 32], garbling: Garbling<A>) -> Result<Vec<u8, A>, Fault>
         requires digest { digest.now ≡ sha256 (canonical_text self.now.circuit.now) }
         requires garbled { IsGarbled self.now.circuit.now self.now.seed.now garbling }
         ensures file { IfOk result

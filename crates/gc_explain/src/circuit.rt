@@ -31,6 +31,10 @@ impl<A: Allocator + Copy, F: Reread> Ended<'_, A, F> {
                 }
             }
         }
-        on_file(self.alloc, name, String::from_str(self.alloc, meaning_of(fault)))
+        on_file(
+            self.alloc,
+            name,
+            String::from_str(self.alloc, meaning_of(fault)),
+        )
     }
 }
