@@ -144,10 +144,10 @@ void check_texts() {
     CHECK(halfgates::explain("1 5 x") == "expected a number from 0 to 4294967295");
     throws(2, "fault 2 BadNumber: line 2, column 1: expected a number from 0 to 4294967295",
            [] { halfgates::circuit it("1\nx"); });
-    throws(8,
-           "fault 8 Unset: line 4, column 7: gate 0, wire 2: the gate reads a wire that is no input and that no earlier "
+    throws(9,
+           "fault 9 SetTwice: line 4, column 9: gate 0, wire 1: the gate sets an input wire, or a wire that an earlier "
            "gate sets",
-           [] { halfgates::circuit it("1 3\n2 1 1\n1 1\n2 1 0 2 2 XOR"); });
+           [] { halfgates::circuit it("1 3\n2 1 1\n1 1\n2 1 0 1 1 XOR"); });
     const char *none = nullptr;
     throws(64, "fault 64 NullPointer", [&] { halfgates::circuit it(none); });
     throws(64, "fault 64 NullPointer", [&] { (void)halfgates::locate(none); });
