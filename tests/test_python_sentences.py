@@ -2,6 +2,7 @@
 import pickle
 import re
 import unittest
+from unittest import mock
 
 from inputs import damaged_text, draws, worked_circuits
 from library import import_package
@@ -48,6 +49,16 @@ class Texts(ProgramTest):
                 else:
                     self.assertEqual((printed, halfgates.explain(text)), ("", ""))
         self.assertGreater(faulty, 20)
+
+    def test_a_text_that_is_not_read_again(self):
+        """If memory runs out meanwhile, or the text changes, the fault says what its code means."""
+        other = halfgates._library.Place()
+        for answer in {"side_effect": halfgates.MemoryFault(13)}, {"return_value": other}:
+            with mock.patch.object(halfgates._texts, "_place_in", **answer):
+                with self.assertRaises(Fault) as caught:
+                    Circuit.read(b"x")
+            self.assertEqual((caught.exception.code, caught.exception.detail), (2, ""))
+            self.assertEqual(str(caught.exception), f"fault 2 BadNumber: {halfgates.Code.BAD_NUMBER.meaning}")
 
     def test_all_bytes_after_a_sentence_are_zeros(self):
         sentence = halfgates._library.Sentence()

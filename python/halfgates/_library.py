@@ -158,8 +158,7 @@ def meaning_of(code: int) -> str:
 class Fault(Exception):
     """A call failed, and changed nothing: its `code`, as `Code` has them, its `name` and its `meaning`.
 
-    Its `detail`, where it has one, is what the call says: the place and the sentence of a text's first fault, or the
-    sizes of a buffer.
+    Its `detail` is the place and the sentence of a text's first fault, or the sizes of a buffer: most faults have none.
     """
 
     def __init__(self, code: int, detail: str = "") -> None:
