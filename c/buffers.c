@@ -145,6 +145,12 @@ int32_t halfgates_locate(const uint8_t *text, size_t length, halfgates_place *pl
     return CALL(halfgates_locate, text, length, place);
 }
 
+int32_t halfgates_explain(const uint8_t *text, size_t length, halfgates_sentence *sentence) {
+    if (!is_there(text, length))
+        return HALFGATES_NULL_POINTER;
+    return CALL(halfgates_explain, text, length, sentence);
+}
+
 int32_t halfgates_circuit_from_gates(const halfgates_gate *gates, size_t count, uint32_t wires,
                                      const uint32_t *input_widths, size_t input_values,
                                      const uint32_t *output_widths, size_t output_values,

@@ -250,6 +250,20 @@ typedef struct halfgates_place {
  */
 int32_t halfgates_locate(const uint8_t *text, size_t length, halfgates_place *place);
 
+/* A sentence, ended by a zero byte. The bytes after it are zeros too. */
+typedef struct halfgates_sentence {
+    char text[256];
+} halfgates_sentence;
+
+/*
+ * Explains the first fault of a text, which halfgates_circuit_read gives: the sentence that the program prints after
+ * the place with --explain, such as "gate 3, wire 9: the gate reads a wire that is no input and that no earlier gate
+ * sets". It names the gate and the wire that halfgates_locate gives. Where the text looks like another format, it ends
+ * with a hint. For a text that is a circuit it is "". Code: HALFGATES_CIRCUIT_MEMORY. For a text with a fault too the
+ * code is HALFGATES_OK.
+ */
+int32_t halfgates_explain(const uint8_t *text, size_t length, halfgates_sentence *sentence);
+
 /* The operations of halfgates_gate. */
 enum {
     HALFGATES_XOR = 0, /* the exclusive or of two wires */

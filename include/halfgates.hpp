@@ -33,6 +33,7 @@
 #include <exception>
 #include <initializer_list>
 #include <memory>
+#include <string>
 #include <system_error>
 #include <type_traits>
 #include <utility>
@@ -62,6 +63,14 @@ public:
         std::snprintf(what_, sizeof what_, "fault %d %s", static_cast<int>(code), name_.text);
     }
 
+    /* The first fault of a text, whose place and sentence what() says. */
+    fault(const halfgates_place &place, const halfgates_sentence &sentence) noexcept
+        : code_(place.fault), name_(halfgates_fault_name(place.fault)) {
+        std::snprintf(what_, sizeof what_, "fault %d %s: line %llu, column %llu: %s", static_cast<int>(code_),
+                      name_.text, static_cast<unsigned long long>(place.line),
+                      static_cast<unsigned long long>(place.column), sentence.text);
+    }
+
     std::int32_t code() const noexcept { return code_; }
     const char *name() const noexcept { return name_.text; }
     const char *what() const noexcept override { return what_; }
@@ -72,7 +81,7 @@ public:
 private:
     std::int32_t code_;
     halfgates_name name_;
-    char what_[64];
+    char what_[384];
 };
 
 inline void check(std::int32_t code) {
@@ -162,6 +171,18 @@ private:
 /* The text of a circuit that ends with a zero byte. A NULL is refused by the call. */
 inline view text_of(const char *text) noexcept {
     return view(text, text == nullptr ? 1 : std::strlen(text));
+}
+
+/* Throws the fault of reading a text, unless the code is that of success. Finding its place and its sentence reads the
+ * text twice more. */
+inline void check_text(std::int32_t code, const input &text) {
+    halfgates_place place = halfgates_place();
+    halfgates_sentence sentence;
+    if (code >= HALFGATES_CIRCUIT_TRUNCATED && code <= HALFGATES_WIDTHS_EXCEED_WIRES &&
+        halfgates_locate(text.data(), text.size(), &place) == HALFGATES_OK && place.fault == code &&
+        halfgates_explain(text.data(), text.size(), &sentence) == HALFGATES_OK)
+        throw fault(place, sentence);
+    check(code);
 }
 
 struct copied {
@@ -533,9 +554,10 @@ public:
 
     explicit circuit(const char *text) : circuit(detail::text_of(text)) {}
 
+    /* Where the text is that of no circuit, what() of the fault says the line, the column and the sentence. */
     explicit circuit(const detail::input &text) {
         halfgates_circuit *at = nullptr;
-        check(halfgates_circuit_read(text.data(), text.size(), &at));
+        detail::check_text(halfgates_circuit_read(text.data(), text.size(), &at), text);
         take(at);
     }
 
@@ -811,6 +833,17 @@ HALFGATES_NODISCARD inline halfgates_place locate(const detail::input &text) {
 
 HALFGATES_NODISCARD inline halfgates_place locate(const char *text) {
     return locate(detail::text_of(text));
+}
+
+/* The sentence on the first fault of a text, and an empty one for a circuit. */
+HALFGATES_NODISCARD inline std::string explain(const detail::input &text) {
+    halfgates_sentence sentence;
+    check(halfgates_explain(text.data(), text.size(), &sentence));
+    return sentence.text;
+}
+
+HALFGATES_NODISCARD inline std::string explain(const char *text) {
+    return explain(detail::text_of(text));
 }
 
 } // namespace halfgates

@@ -240,8 +240,8 @@ class Unclear(unittest.TestCase):
 
     def test_what_the_library_refuses(self):
         with mock.patch.object(module.Source, "build", lambda _: b"1 1"):
-            said = "what it becomes isn't read: fault 1 Truncated: the text ends before the circuit does"
-            self.assert_unclear(FULL_ADDER, said)
+            said = "fault 1 Truncated: line 1, column 4: the text ends before the circuit does"
+            self.assert_unclear(FULL_ADDER, f"what it becomes isn't read: {said}")
 
     def test_damaged_texts(self):
         """Whatever a text has, it is a circuit, or it is said why not."""

@@ -37,13 +37,13 @@ def deal_all(circuit, seed, values):
 
 
 class LibraryTest(unittest.TestCase):
-    def assert_fault(self, fault, call, *words):
-        """The call raises a Fault of this code and this name."""
+    def assert_fault(self, fault, call, *words, detail=""):
+        """The call raises a Fault of this code and this name, which says this or what its code means."""
         with self.assertRaises(Fault) as caught:
             call(*words)
         raised = caught.exception
         self.assertEqual(f"{raised.code} {raised.name}", fault)
-        self.assertEqual(str(raised), f"fault {fault}: {halfgates.Code(raised.code).meaning}")
+        self.assertEqual(str(raised), f"fault {fault}: {detail or halfgates.Code(raised.code).meaning}")
 
 
 class Vectors(LibraryTest):
@@ -155,7 +155,8 @@ class Vectors(LibraryTest):
         for about, bad in by_about(load("bad_circuits")):
             with self.subTest(about):
                 text, fault = bad["text"].encode(), f"{bad['fault']} {bad['name']}"
-                self.assert_fault(fault, Circuit.read, text)
+                said = f"line {bad['line']}, column {bad['column']}: {halfgates.explain(text)}"
+                self.assert_fault(fault, Circuit.read, text, detail=said)
                 located = halfgates.locate(text)._asdict()
                 located["fault"] = located.pop("code")
                 place = {key: bad.get(key) for key in ("fault", "name", "line", "column", "gate", "wire")}
@@ -495,12 +496,13 @@ class Buffers(LibraryTest):
             self.assertEqual(garbling.write_into(memoryview(room)[100:], 1), len(garbling.write(1)))
             self.assertEqual(room[100 : 100 + 113], garbling.write(1))
             short = bytearray(len(file) - 1)
-            self.assert_fault("61 SmallBuffer", garbling.write_into, short)
+            said = f"buffer has {len(short)} bytes, and at least {len(file)} are expected"
+            self.assert_fault("61 SmallBuffer", garbling.write_into, short, detail=said)
             self.assertEqual(short, bytes(len(file) - 1))
             self.assertRaises(BufferError, garbling.write_into, bytes(len(file)))
 
     def test_what_has_no_bytes_in_a_row(self):
-        for call in (Circuit.read, halfgates.locate):
+        for call in (Circuit.read, halfgates.locate, halfgates.explain):
             self.assertRaises(TypeError, call, "1")
             self.assertRaises(TypeError, call, 1)
             self.assertRaises(BufferError, call, memoryview(b"1234")[::2])
@@ -551,10 +553,11 @@ class Conveniences(LibraryTest):
                 self.assertEqual((same.digest, other.digest), (circuit.digest, circuit.digest))
         self.assertRaises(FileNotFoundError, Circuit.open, EXAMPLES / "none.txt")
         self.assertRaises(TypeError, Circuit.from_text, FULL_ADDER.encode())
-        self.assert_fault("2 BadNumber", Circuit.from_text, "\u0661 5")
+        said = "line 1, column 1: expected a number from 0 to 4294967295"
+        self.assert_fault("2 BadNumber", Circuit.from_text, "\u0661 5", detail=said)
         with tempfile.NamedTemporaryFile() as file:
             Path(file.name).write_bytes(b"\xff 3")  # which isn't UTF-8
-            self.assert_fault("2 BadNumber", Circuit.open, file.name)
+            self.assert_fault("2 BadNumber", Circuit.open, file.name, detail=said)
 
     def test_reports_are_true_where_they_are_honest(self):
         with Circuit.from_text(FULL_ADDER) as circuit:
@@ -597,7 +600,7 @@ labels = [bytes(circuit.deal(bytes(32), index, [1])) for index in range(3)]
 job = circuit.bind(garbled, labels)
 bits, labels, sizes = bytes([1, 1, 1]), b"".join(labels), (c_size_t * 3)(32, 32, 32)
 offset, room, written, handle = bytes([1] * 16), create_string_buffer(512), c_size_t(), c_void_p()
-wires, place = (_library.WireLabels * 8)(), _library.Place()
+wires, place, sentence = (_library.WireLabels * 8)(), _library.Place(), _library.Sentence()
 report, labels_report = _library.AuditReport(), _library.LabelsReport()
 null = None, 1
 for name, *words in [
@@ -605,6 +608,7 @@ for name, *words in [
     ("circuit_input_widths", circuit, *null),
     ("circuit_output_widths", circuit, *null),
     ("locate", *null, place),
+    ("explain", *null, sentence),
     ("plain", circuit, *null, room, 2),
     ("plain", circuit, bits, 3, *null),
     ("garbling_write", garbling, 2, *null, byref(written)),

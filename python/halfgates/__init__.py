@@ -17,17 +17,19 @@ A garbling in pieces leaves while it is made, and an evaluator takes the pieces 
 
 Texts and files are objects with the buffer protocol. They are read in place, but several label files are joined first.
 Bits are bytes 0 and 1 in wire order: `to_bits` makes them of a number, and `from_bits` a number of them. A call that
-fails raises a `Fault`, with its `code`, which `Code` has, its `name` and its `meaning`.
+fails raises a `Fault`, with its `code`, which `Code` has, its `name` and its `meaning`. `explain` and `locate` say what
+the first fault of a text is, and where.
 """
 
 from ._arrays import Gate, Gates, Operation
 from ._bits import Bits, Buffer, from_bits, to_bits
 from ._codes import Code
-from ._handles import Circuit, Garbling, Job, decode, locate
+from ._handles import Circuit, Garbling, Job, decode
 from ._library import Fault, MemoryFault, is_memory, version
 from ._lists import evaluate_each, evaluate_many, write_many
 from ._reports import GarbledReport, GateFault, LabelsReport, Place, WireLabels
 from ._streaming import Evaluator, Garbler
+from ._texts import explain, locate
 
 __version__ = version()
 
@@ -53,6 +55,7 @@ __all__ = [
     "decode",
     "evaluate_each",
     "evaluate_many",
+    "explain",
     "from_bits",
     "is_memory",
     "locate",

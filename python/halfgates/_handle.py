@@ -94,6 +94,11 @@ class Handle:
         self.close()
 
 
+def width_of(widths: Tuple[int, ...], index: int) -> int:
+    """How many wires the value of this index has: 0 where there is none."""
+    return widths[index] if index < len(widths) else 0
+
+
 def offset_of(handle: Handle, function: Callable[..., int]) -> bytes:
     """The offset that a function of the library writes for a handle."""
     offset = (c_uint8 * LABEL)()
@@ -106,7 +111,7 @@ def pairs_of(
 ) -> Tuple[bytes, bytes]:
     """The zero labels and the one labels of a value, of one of these widths, that a function of the library writes."""
     index = u32(index)
-    size = LABEL * widths[index] if index < len(widths) else 0
+    size = LABEL * width_of(widths, index)
     zero, one = (c_uint8 * size)(), (c_uint8 * size)()
     check(handle._call(function, index, byref(zero), byref(one), size))
     return bytes(zero), bytes(one)

@@ -13,10 +13,12 @@ from ._arrays import GATE, Gates, lent_gates, numbers_of
 from ._bits import Bits, Buffer
 from ._buffers import Lent
 from ._codes import Code
-from ._handle import Handle, Shape, offset_of, owner, pairs_of
+from ._handle import Handle, Shape, offset_of, owner, pairs_of, width_of
 from ._library import Fault, check, library
-from ._reports import GarbledReport, GateFault, LabelsReport, Place, WireLabels
+from ._reports import GarbledReport, GateFault, LabelsReport, WireLabels
 from ._streaming import Evaluator, Garbler
+from ._texts import check_text
+
 
 class Circuit(Handle):
     """A circuit, by `Circuit.read`. Its numbers stay when it is closed, and so do its garblings and jobs.
@@ -35,10 +37,13 @@ class Circuit(Handle):
 
     @classmethod
     def read(cls, text: Buffer) -> "Circuit":
-        """Reads a circuit from its text in Bristol Fashion, and takes its digest. Faults: 1 to 13, 62."""
+        """Reads a circuit from its text in Bristol Fashion, and takes its digest.
+
+        Faults: 1 to 12, which say the line, the column and the sentence of `explain`, 13, 62.
+        """
         it = cls._empty()
         with Lent(text) as lent:
-            check(library.halfgates_circuit_read(lent.at, lent.size, byref(it._at)))
+            check_text(library.halfgates_circuit_read(lent.at, lent.size, byref(it._at)), lent)
         it._measure()
         return it
 
@@ -163,7 +168,8 @@ class Circuit(Handle):
         it, first = self._garbling(), u64(first)
         with lent_of_size(offset, "an offset", LABEL) as lent, Lent(zero_labels) as labels:
             words = lent.at, labels.at, labels.size, first, byref(it._at)
-            check(self._call(library.halfgates_garble_from, *words))
+            code = self._call(library.halfgates_garble_from, *words)
+            check(code, ("zero_labels", labels.size, LABEL * self._shape.input_wires))
         return it
 
     def garbler(self, seed: Buffer) -> Garbler:
@@ -183,7 +189,8 @@ class Circuit(Handle):
         it._shape = self._shape
         with lent_of_size(offset, "an offset", LABEL) as lent, Lent(zero_labels) as labels:
             words = lent.at, labels.at, labels.size, first, byref(it._at)
-            check(self._call(library.halfgates_garbler_begin_from, *words))
+            code = self._call(library.halfgates_garbler_begin_from, *words)
+            check(code, ("zero_labels", labels.size, LABEL * self._shape.input_wires))
         return it
 
     def evaluator(self, first: int, labels: Buffer) -> Evaluator:
@@ -195,7 +202,8 @@ class Circuit(Handle):
         it, first = Evaluator._empty(), u64(first)
         it._shape = self._shape
         with Lent(labels) as lent:
-            check(self._call(library.halfgates_evaluator_begin, first, lent.at, lent.size, byref(it._at)))
+            code = self._call(library.halfgates_evaluator_begin, first, lent.at, lent.size, byref(it._at))
+            check(code, ("labels", lent.size, LABEL * self._shape.input_wires))
         return it
 
     def _garbling(self) -> "Garbling":
@@ -227,7 +235,8 @@ class Circuit(Handle):
             file = bytearray(HEAD_OF_LABELS + lent.size)
             with Lent(file, is_written=True) as out:
                 words = index, lent.at, lent.size, out.at, out.size, byref(written)
-                check(self._call(library.halfgates_label_file, *words))
+                code = self._call(library.halfgates_label_file, *words)
+            check(code, ("labels", lent.size, LABEL * width_of(self._shape.input_widths, index)))
         return file
 
     def bind(self, garbled: Buffer, labels: Iterable[Buffer]) -> "Job":
@@ -260,7 +269,9 @@ class Circuit(Handle):
         first, outputs = u64(first), bytearray(LABEL * self._shape.output_wires)
         with Lent(rows) as pairs, Lent(labels) as lent, Lent(outputs, is_written=True) as out:
             words = pairs.at, pairs.size, first, lent.at, lent.size, out.at, out.size
-            check(self._call(library.halfgates_evaluate_labels, *words))
+            code = self._call(library.halfgates_evaluate_labels, *words)
+            expected = ROW_PAIR * self._shape.and_gates, LABEL * self._shape.input_wires
+            check(code, ("rows", pairs.size, expected[0]), ("labels", lent.size, expected[1]))
         return outputs
 
 
@@ -287,7 +298,8 @@ class Garbling(Handle):
         """
         version, written = u32(version), c_size_t()
         with Lent(buffer, is_written=True) as out:
-            check(self._call(library.halfgates_garbling_write, version, out.at, out.size, byref(written)))
+            code = self._call(library.halfgates_garbling_write, version, out.at, out.size, byref(written))
+            check(code, ("buffer", out.size, written.value))
         return written.value
 
     def _size(self, version: int) -> int:
@@ -347,7 +359,8 @@ class Garbling(Handle):
         start = u32(start)
         count = self._range(start, count)
         with Lent(buffer, is_written=True) as out:
-            check(self._call(library.halfgates_rows_range, start, count, out.at, out.size))
+            code = self._call(library.halfgates_rows_range, start, count, out.at, out.size)
+            check(code, ("buffer", out.size, ROW_PAIR * count))
         return ROW_PAIR * count
 
     def _range(self, start: int, count: Optional[int]) -> int:
@@ -364,10 +377,10 @@ class Garbling(Handle):
         two, 66 where there is another number of labels.
         """
         index = u32(index)
-        widths = self._shape.output_widths
-        bits = bytearray(widths[index] if index < len(widths) else 0)
+        bits = bytearray(width_of(self._shape.output_widths, index))
         with Lent(labels) as lent, Lent(bits, is_written=True) as out:
-            check(self._call(library.halfgates_open, index, lent.at, lent.size, out.at, out.size))
+            code = self._call(library.halfgates_open, index, lent.at, lent.size, out.at, out.size)
+            check(code, ("labels", lent.size, LABEL * out.size))
         return bits
 
     def decode_bits(self) -> bytearray:
@@ -458,13 +471,6 @@ def decode(labels: Buffer, decode_bits: Bits) -> bytearray:
     with Lent(labels) as lent, lent_bits(decode_bits) as decoding:
         bits = bytearray(decoding.size)
         with Lent(bits, is_written=True) as out:
-            check(library.halfgates_decode(lent.at, lent.size, decoding.at, decoding.size, out.at, out.size))
+            words = lent.at, lent.size, decoding.at, decoding.size, out.at, out.size
+            check(library.halfgates_decode(*words), ("labels", lent.size, LABEL * decoding.size))
     return bits
-
-
-def locate(text: Buffer) -> Optional[Place]:
-    """Where the first fault of a text in Bristol Fashion is: None for a circuit. Fault: 13."""
-    place = _library.Place()
-    with Lent(text) as lent:
-        check(library.halfgates_locate(lent.at, lent.size, place))
-    return Place._of(place)

@@ -33,6 +33,10 @@ class Place(ctypes.Structure):
     ]
 
 
+class Sentence(ctypes.Structure):
+    _fields_ = [("text", c_char * 256)]
+
+
 class WireLabels(ctypes.Structure):
     _fields_ = [("zero", c_uint8 * 16), ("active", c_uint8 * 16), ("bit", c_uint8)]
 
@@ -69,6 +73,7 @@ _FUNCTIONS: Dict[str, Tuple[Any, ...]] = {
         *(POINTER(_HANDLE), POINTER(Place)),
     ),
     "locate": (c_int32, _BYTES, c_size_t, POINTER(Place)),
+    "explain": (c_int32, _BYTES, c_size_t, POINTER(Sentence)),
     "plain": (c_int32, _HANDLE, _BYTES, c_size_t, _BYTES, c_size_t),
     "garble": (c_int32, _HANDLE, _BYTES, POINTER(_HANDLE)),
     "garble_many": (c_int32, _HANDLE, _BYTES, c_size_t, POINTER(_HANDLE)),
@@ -151,26 +156,44 @@ def meaning_of(code: int) -> str:
 
 
 class Fault(Exception):
-    """A call failed, and changed nothing: its `code`, as `Code` has them, its `name` and its `meaning`."""
+    """A call failed, and changed nothing: its `code`, as `Code` has them, its `name` and its `meaning`.
 
-    def __init__(self, code: int) -> None:
-        self.code, self.name, self.meaning = int(code), name_of(code), meaning_of(code)
-        super().__init__(code)
+    Its `detail` is the place and the sentence of a text's first fault, or the sizes of a buffer: most faults have none.
+    """
+
+    def __init__(self, code: int, detail: str = "") -> None:
+        self.code, self.name, self.meaning, self.detail = int(code), name_of(code), meaning_of(code), detail
+        super().__init__(*((code, detail) if detail else (code,)))
 
     def __str__(self) -> str:
-        return f"fault {self.code} {self.name}" + (f": {self.meaning}" if self.meaning else "")
+        about = self.detail or self.meaning
+        return f"fault {self.code} {self.name}" + (f": {about}" if about else "")
 
 
 class MemoryFault(Fault, MemoryError):
     """Memory ran out."""
 
 
-def fault_of(code: int) -> Fault:
+def fault_of(code: int, detail: str = "") -> Fault:
     """The fault of this code, which isn't that of success."""
-    return (MemoryFault if is_memory(code) else Fault)(code)
+    return (MemoryFault if is_memory(code) else Fault)(code, detail)
 
 
-def check(code: int) -> None:
-    """Raises the fault of this code, unless it is that of success."""
+# A buffer that a caller passes: the name of the parameter, how many bytes it has, and how many are expected.
+Sized = Tuple[str, int, int]
+
+
+def check(code: int, *buffers: Sized) -> None:
+    """Raises the fault of this code, unless it is that of success. If one of these buffers is at fault, it says so."""
     if code != Code.OK:
-        raise fault_of(code)
+        raise fault_of(code, _detail_of(code, buffers))
+
+
+def _detail_of(code: int, buffers: Tuple[Sized, ...]) -> str:
+    """Which buffer has too little room or a wrong size, and the sizes, for the codes that say so."""
+    for name, given, expected in buffers:
+        if code == Code.WRONG_SIZE and given != expected:
+            return f"{name} has {given} bytes, and {expected} are expected"
+        if code == Code.SMALL_BUFFER and given < expected:
+            return f"{name} has {given} bytes, and at least {expected} are expected"
+    return ""

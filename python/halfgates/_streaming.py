@@ -66,7 +66,8 @@ class Garbler(Streaming):
         """
         written = c_size_t()
         with Lent(buffer, is_written=True) as out:
-            check(self._call(library.halfgates_garbler_next, out.at, out.size, byref(written)))
+            code = self._call(library.halfgates_garbler_next, out.at, out.size, byref(written))
+            check(code, ("buffer", out.size, ROW_PAIR))
         return written.value
 
     def pieces(self, and_gates: int = 4096) -> Iterator[bytearray]:

@@ -1,7 +1,7 @@
 // SPDX-License-Identifier: MIT OR Apache-2.0
 //! How calls of the library give handles and fill buffers.
 
-use std::borrow::Borrow;
+use std::borrow::{Borrow, Cow};
 use std::fmt;
 use std::mem::size_of;
 use std::ptr::{self, NonNull};
@@ -156,11 +156,12 @@ pub fn bits_of(bytes: Vec<u8>) -> Vec<bool> {
 
 impl fmt::Display for sys::halfgates_name {
     fn fmt(&self, f: &mut fmt::Formatter<'_>) -> fmt::Result {
-        let text = self
-            .text
-            .split(|&byte| byte == 0)
-            .next()
-            .unwrap_or_default();
-        f.write_str(&String::from_utf8_lossy(text))
+        f.write_str(&text_of(&self.text))
     }
+}
+
+/// The text that a zero byte ends.
+pub fn text_of(bytes: &[u8]) -> Cow<'_, str> {
+    let text = bytes.split(|&byte| byte == 0).next().unwrap_or_default();
+    String::from_utf8_lossy(text)
 }

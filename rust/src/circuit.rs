@@ -38,8 +38,8 @@ impl Circuit {
     ///
     /// # Errors
     ///
-    /// The first fault of the text, codes 1 to 13, which [`locate`](crate::locate) places;
-    /// [`Fault::MEMORY`].
+    /// The first fault of the text, codes 1 to 13, which [`locate`](crate::locate) places and
+    /// [`explain`](crate::explain) explains; [`Fault::MEMORY`].
     #[doc(alias = "halfgates_circuit_read")]
     pub fn read(text: impl AsRef<[u8]>) -> Result<Self, Fault> {
         let text = text.as_ref();

@@ -7,8 +7,9 @@ use crate::sys;
 
 /// Why a call failed. The call has changed nothing.
 ///
-/// Each fault has the code and the name that the program `halfgates` prints. The constants serve as
-/// patterns:
+/// Each fault has the code and the name that the program `halfgates` prints. Of a text that is no
+/// circuit, [`explain`](crate::explain) says what is wrong, and [`locate`](crate::locate) where. The
+/// constants serve as patterns:
 ///
 /// ```
 /// use halfgates::{Circuit, Fault};

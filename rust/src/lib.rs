@@ -88,7 +88,7 @@ mod report;
 mod streaming;
 mod sys;
 
-use call::{bits_of, filled};
+use call::{bits_of, filled, text_of};
 
 pub use circuit::Circuit;
 pub use fault::Fault;
@@ -190,6 +190,35 @@ pub fn locate(text: impl AsRef<[u8]>) -> Result<Option<Place>, Fault> {
     // SAFETY: the call reads the text, and writes the place.
     Fault::check(unsafe { sys::halfgates_locate(text.as_ptr(), text.len(), &mut place) })?;
     Ok(Place::of(&place))
+}
+
+/// The sentence on the first fault of a text in Bristol Fashion, which the program `halfgates`
+/// prints after the place with `--explain`. It names the gate and the wire, and ends with a hint
+/// where the text looks like another format. It is empty for a circuit.
+///
+/// ```
+/// use halfgates::{explain, Circuit};
+///
+/// let text = "1 3\n2 1 1\n1 1\n2 1 0 2 2 XOR";
+/// let fault = Circuit::read(text).unwrap_err();
+/// assert_eq!(
+///     format!("{fault}: {}", explain(text)?),
+///     "fault 8 Unset: gate 0, wire 2: \
+///      the gate reads a wire that is no input and that no earlier gate sets"
+/// );
+/// # Ok::<(), halfgates::Fault>(())
+/// ```
+///
+/// # Errors
+///
+/// [`Fault::CIRCUIT_MEMORY`].
+#[doc(alias = "halfgates_explain")]
+pub fn explain(text: impl AsRef<[u8]>) -> Result<String, Fault> {
+    let text = text.as_ref();
+    let mut sentence = sys::halfgates_sentence { text: [0; 256] };
+    // SAFETY: the call reads the text, and writes the sentence.
+    Fault::check(unsafe { sys::halfgates_explain(text.as_ptr(), text.len(), &mut sentence) })?;
+    Ok(text_of(&sentence.text).into_owned())
 }
 
 /// The bits of active output labels: of each wire the decode bit XOR the colour of the label. Any

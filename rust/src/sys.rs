@@ -58,6 +58,11 @@ pub struct halfgates_place {
 }
 
 #[repr(C)]
+pub struct halfgates_sentence {
+    pub text: [u8; 256],
+}
+
+#[repr(C)]
 pub struct halfgates_wire_labels {
     pub zero: [u8; 16],
     pub active: [u8; 16],
@@ -95,6 +100,7 @@ const _: () = {
     assert!(size_of::<halfgates_numbers>() == 28);
     assert!(size_of::<halfgates_gate>() == 16);
     assert!(size_of::<halfgates_place>() == 32);
+    assert!(size_of::<halfgates_sentence>() == 256);
     assert!(size_of::<halfgates_wire_labels>() == 33);
     assert!(size_of::<halfgates_audit_report>() == 28);
     assert!(size_of::<halfgates_labels_report>() == 16);
@@ -142,6 +148,11 @@ extern "C" {
     ) -> i32;
     pub fn halfgates_circuit_digest(circuit: *const halfgates_circuit, digest: *mut u8) -> i32;
     pub fn halfgates_locate(text: *const u8, length: usize, place: *mut halfgates_place) -> i32;
+    pub fn halfgates_explain(
+        text: *const u8,
+        length: usize,
+        sentence: *mut halfgates_sentence,
+    ) -> i32;
     pub fn halfgates_circuit_from_gates(
         gates: *const halfgates_gate,
         count: usize,

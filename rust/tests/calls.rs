@@ -9,8 +9,8 @@ use std::process::{Command, Stdio};
 use std::thread;
 
 use halfgates::{
-    decode, evaluate_each, evaluate_many, locate, write_many, Circuit, Evaluator, Fault, Garbler,
-    Garbling, Gate, GateFault, Job, Label, RowPair, Verdict, Version,
+    decode, evaluate_each, evaluate_many, explain, locate, write_many, Circuit, Evaluator, Fault,
+    Garbler, Garbling, Gate, GateFault, Job, Label, RowPair, Verdict, Version,
 };
 
 const FULL_ADDER: &str = include_str!("../../examples/full_adder.txt");
@@ -118,6 +118,29 @@ fn the_place_of_a_fault() {
     );
     assert_eq!((place.gate, place.wire), (None, None));
     assert_eq!(locate(FULL_ADDER), Ok(None));
+}
+
+#[test]
+fn the_sentence_on_a_fault() {
+    let explained = |text: &str| explain(text).unwrap();
+    assert_eq!(
+        explained(&FULL_ADDER.replace("3 4 5 AND", "3 6 5 AND")),
+        "gate 2, wire 6: the gate reads a wire that is no input and that no earlier gate sets"
+    );
+    assert_eq!(explained(""), "the text ends before the circuit does");
+    assert_eq!(
+        explained("0 3\n2 1 1\n1 1\n"),
+        "wire 2: the output wire is no input, and no gate sets it"
+    );
+    assert_eq!(
+        explained("1 3\n2 1 1\n1 1\n# one gate\n2 1 0 1 2 AND"),
+        "gate 0: expected a number from 0 to 4294967295; a circuit has no comments"
+    );
+    assert_eq!(explained(FULL_ADDER), "");
+    assert_eq!(
+        explain([0xff, 0xfe, b'1', 0]).unwrap(),
+        "expected a number from 0 to 4294967295; the file is UTF-16, and a circuit is ASCII"
+    );
 }
 
 #[test]

@@ -34,6 +34,8 @@ static void circuits(halfgates_circuit *circuit) {
     CHECK_CODE(ABSENT, halfgates_circuit_text(NULL, room, sizeof room, &written));
     CHECK_CODE(ABSENT, halfgates_circuit_text(circuit, room, sizeof room, NULL));
     CHECK_CODE(ABSENT, halfgates_locate(text, length, NULL));
+    CHECK_CODE(ABSENT, halfgates_explain(text, length, NULL));
+    CHECK_CODE(ABSENT, halfgates_explain(NULL, 1, (halfgates_sentence *)room));
     CHECK_CODE(HALFGATES_OK, halfgates_locate(NULL, 0, &place));
     CHECK(place.fault == HALFGATES_CIRCUIT_TRUNCATED && place.line == 1 && place.column == 1);
     CHECK(place.gate == HALFGATES_NONE && place.wire == HALFGATES_NONE);

@@ -402,5 +402,7 @@ int main(int count, char **words) {
     check_lists_of_garblings(circuit);
     CHECK(halfgates::locate(text).fault == HALFGATES_OK);
     CHECK(halfgates::locate(std::string("1 5 x")).column == 5);
+    CHECK(halfgates::explain(text).empty());
+    CHECK(halfgates::explain(std::string("1 5 x")) == "expected a number from 0 to 4294967295");
     return 0;
 }

@@ -29,6 +29,9 @@ AT(halfgates_place, wire, 8);
 AT(halfgates_place, line, 16);
 AT(halfgates_place, column, 24);
 
+SIZE(halfgates_sentence, 256);
+AT(halfgates_sentence, text, 0);
+
 SIZE(halfgates_wire_labels, 33);
 AT(halfgates_wire_labels, zero, 0);
 AT(halfgates_wire_labels, active, 16);

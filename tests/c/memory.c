@@ -274,11 +274,14 @@ static void work(void) {
     halfgates_garbling *garbling = NULL;
     halfgates_job *job = NULL;
     halfgates_place place;
+    halfgates_sentence sentence;
     halfgates_wire_labels found[8];
     halfgates_audit_report report;
     halfgates_labels_report labels_report;
 
     CALL(halfgates_locate(text, strlen(FULL_ADDER), &place));
+    CALL(halfgates_explain(text, strlen(FULL_ADDER) - 9, &sentence));
+    CHECK(strcmp(sentence.text, "gate 4: the text ends before the circuit does") == 0);
     CALL(halfgates_circuit_read(text, strlen(FULL_ADDER), &circuit));
     CALL(halfgates_circuit_from_gates(&constant, 1, 1, NULL, 0, &width, 1, &taken, NULL));
     halfgates_circuit_free(taken);

@@ -110,12 +110,15 @@ static void check_files(void) {
     halfgates_garbling *garbling = NULL;
     halfgates_job *job = NULL;
     halfgates_place place;
+    halfgates_sentence sentence;
     halfgates_audit_report report;
     halfgates_labels_report labels_report;
     CHECK_CODE(HALFGATES_CIRCUIT_TRUNCATED, halfgates_circuit_read(NULL, 0, &circuit));
     CHECK(circuit == NULL);
     CHECK_CODE(HALFGATES_OK, halfgates_locate(NULL, 0, &place));
     CHECK(place.fault == HALFGATES_CIRCUIT_TRUNCATED && place.line == 1 && place.column == 1);
+    CHECK_CODE(HALFGATES_OK, halfgates_explain(NULL, 0, &sentence));
+    CHECK(strcmp(sentence.text, "the text ends before the circuit does") == 0);
     CHECK_CODE(HALFGATES_OK, halfgates_circuit_from_gates(NULL, 0, 0, NULL, 0, NULL, 0, &circuit, NULL));
     halfgates_circuit_free(circuit);
     circuit = read_text(FULL_ADDER);

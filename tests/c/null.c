@@ -56,6 +56,7 @@ int main(int count, char **words) {
     halfgates_evaluator *evaluator = NULL, *made_evaluator = NULL;
     int32_t codes[1];
     halfgates_place place;
+    halfgates_sentence sentence;
     halfgates_wire_labels found[8];
     halfgates_audit_report report;
     halfgates_labels_report labels_report;
@@ -74,6 +75,7 @@ int main(int count, char **words) {
 
     CHECK_REFUSED(halfgates_circuit_read, NULL, 1, &made);
     CHECK_REFUSED(halfgates_locate, NULL, 1, &place);
+    CHECK_REFUSED(halfgates_explain, NULL, 1, &sentence);
     CHECK_REFUSED(halfgates_circuit_from_gates, NULL, 1, 1, NULL, 0, NULL, 0, &made, &place);
     CHECK_REFUSED(halfgates_circuit_from_gates, NULL, 0, 0, NULL, 1, NULL, 0, &made, &place);
     CHECK_REFUSED(halfgates_circuit_from_gates, NULL, 0, 0, NULL, 0, NULL, 1, &made, &place);

@@ -140,10 +140,18 @@ void check_texts() {
     CHECK(halfgates::circuit("1 3\n2 1 1\n1 1\n2 1 0 1 2 AND").numbers().and_gates == 1);
     CHECK(halfgates::circuit(and_gate).numbers().and_gates == 1);
     CHECK(halfgates::locate(FULL_ADDER).fault == 0 && halfgates::locate("1 5 x").column == 5);
-    throws(1, "fault 1 Truncated", [] { halfgates::circuit it(""); });
+    CHECK(halfgates::explain(FULL_ADDER).empty() && halfgates::explain(TEXT).empty());
+    CHECK(halfgates::explain("1 5 x") == "expected a number from 0 to 4294967295");
+    throws(2, "fault 2 BadNumber: line 2, column 1: expected a number from 0 to 4294967295",
+           [] { halfgates::circuit it("1\nx"); });
+    throws(9,
+           "fault 9 SetTwice: line 4, column 9: gate 0, wire 1: the gate sets an input wire, or a wire that an earlier "
+           "gate sets",
+           [] { halfgates::circuit it("1 3\n2 1 1\n1 1\n2 1 0 1 1 XOR"); });
     const char *none = nullptr;
     throws(64, "fault 64 NullPointer", [&] { halfgates::circuit it(none); });
     throws(64, "fault 64 NullPointer", [&] { (void)halfgates::locate(none); });
+    throws(64, "fault 64 NullPointer", [&] { (void)halfgates::explain(none); });
 }
 
 /* Bits may be of a vector<bool>, wherever bits are read. */
@@ -163,7 +171,8 @@ void check_bits() {
 void check_faults() {
     const halfgates::circuit circuit(TEXT);
     const halfgates::garbling garbling = circuit.garble(seed_of(0));
-    throws(1, "fault 1 Truncated", [] { halfgates::circuit it(bytes{}); });
+    throws(1, "fault 1 Truncated: line 1, column 1: the text ends before the circuit does",
+           [] { halfgates::circuit it(bytes{}); });
     throws(16, "fault 16 WrongLength", [&] { (void)circuit.plain({1}); });
     throws(42, "fault 42 NoSuchValue", [&] { (void)circuit.deal(seed_of(0), 3, {1}); });
     throws(45, "fault 45 MissingValue", [&] { (void)circuit.bind(garbling.write(), {}); });

@@ -29,6 +29,7 @@ static halfgates_numbers numbers;
 static void *made[MANY];
 static uint8_t room[LARGEST];
 static halfgates_place place;
+static halfgates_sentence sentence;
 static halfgates_wire_labels wires[2 * WIRES];
 static halfgates_audit_report report;
 static halfgates_labels_report labels_report;
@@ -55,6 +56,7 @@ static const uint32_t WIDTH = 1;
     X(circuit_output_widths, halfgates_circuit_output_widths(circuit, widths, 1)) \
     X(circuit_digest, halfgates_circuit_digest(circuit, room)) \
     X(locate, halfgates_locate(text, length - 9, &place)) \
+    X(explain, halfgates_explain(text, length - 9, &sentence)) \
     X(plain, halfgates_plain(circuit, bits, 2 * WIRES, room, WIRES)) \
     X(garble, halfgates_garble(circuit, seeds[0], MADE(garbling))) \
     X(garble_many, halfgates_garble_many(circuit, seeds[0], MANY, MADE(garbling))) \
