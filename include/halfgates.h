@@ -315,7 +315,8 @@ int32_t halfgates_garble(const halfgates_circuit *circuit, const uint8_t seed[32
 /*
  * Garbles a circuit under `count` seeds, 32 bytes each and one after another, on the calling thread, and writes `count`
  * garblings to `garblings`. Each is the garbling that halfgates_garble makes under its seed. Two at a time are made
- * side by side, which takes less time. The codes are the same. A call that fails makes no garbling.
+ * side by side, which takes less time with AVX2, and up to a fifth more without. The codes are the same. A call that
+ * fails makes no garbling.
  */
 int32_t halfgates_garble_many(const halfgates_circuit *circuit, const uint8_t *seeds, size_t count,
                               halfgates_garbling **garblings);

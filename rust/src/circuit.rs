@@ -245,7 +245,7 @@ impl Circuit {
     }
 
     /// Garbles under each of these seeds, as [`Circuit::garble`] does, in their order. Two at a
-    /// time are garbled side by side, which takes less time.
+    /// time are garbled side by side, which takes less time with AVX2.
     ///
     /// # Errors
     ///
