@@ -9,14 +9,14 @@ use std::alloc::Global;
 use std::rt::Clock;
 use std::sync::Wait;
 use std::thread::Threads;
-use std::time::Instant;
+use std::time::{Duration, Instant};
 
 /// A part, and the time of its fastest run so far.
 #[derive(Drop)]
 pub struct Timing {
     name: String,
     part: Part,
-    nanoseconds: u128,
+    nanoseconds: u64,
 }
 
 impl Timing {
@@ -26,7 +26,7 @@ impl Timing {
         Ok(Timing {
             name,
             part,
-            nanoseconds: u128::MAX,
+            nanoseconds: u64::MAX,
         })
     }
 }
@@ -62,9 +62,16 @@ fn time_once<R: Threads + Wait + Clock + Sync>(
     for timing in timings {
         let start = Instant::now(rt)?;
         workload.run(rt, alloc, timing.part, text, job, jobs)?;
-        timing.nanoseconds = timing.nanoseconds.min(start.elapsed(rt)?.as_nanos());
+        let took = nanoseconds_of(start.elapsed(rt)?);
+        timing.nanoseconds = timing.nanoseconds.min(took);
     }
     Ok(())
+}
+
+/// A time in nanoseconds.
+fn nanoseconds_of(time: Duration) -> u64 {
+    let seconds = time.as_secs().saturating_mul(1_000_000_000);
+    seconds.saturating_add(u64::from(time.subsec_nanos()))
 }
 
 /// Prints the numbers of the circuit, and each part with its time.
