@@ -73,15 +73,15 @@ the circuit's file\n",
 
 /// An order, by its arguments, that has ended by a fault over these files, and the line that explains the fault.
 #[derive(Clone, Copy)]
-struct Explained<'a> {
+struct Explained<'a, 'f> {
     alloc: Global,
     words: &'a [&'a str],
-    files: &'a MemFiles<'a>,
+    files: &'a MemFiles<'f>,
     fault: Fault,
     line: &'a str,
 }
 
-impl Explained<'_> {
+impl Explained<'_, '_> {
     /// Whether the fault of this order is explained by the line.
     fn is_told<A: Allocator + Copy>(self, memory: A, order: &Order) -> bool {
         let ended = Ended {

@@ -85,7 +85,7 @@ fn assert_orders<R: Threads + Wait + Sync>(
 ) -> Result<(), Fail> {
     for (words, printed, growths) in &ORDERS {
         let unwritten = Trial { rt, alloc, words }.unwritten_runs(files, printed)?;
-        equal((words, unwritten), (words, *growths))?;
+        equal((*printed, unwritten), (*printed, *growths))?;
     }
     Ok(())
 }
