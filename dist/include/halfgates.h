@@ -18,7 +18,8 @@
  *
  * Circuits that follow one another are garbled under one offset: halfgates_garble_from takes the offset, the zero
  * labels of the input wires, and the number of the first AND gate, and halfgates_evaluate_labels turns active labels
- * of the input wires into active labels of the output wires. See LABELS.
+ * of the input wires into active labels of the output wires. See LABELS. A garbler and an evaluator do the same in
+ * pieces, so that row pairs are sent while the next ones are made: see STREAMING.
  *
  * CODES. A function that can fail returns a code: 0 is success, and any other is the number of the fault that the
  * program `halfgates` prints, or a code of this library alone. A call that fails changes no handle, and writes
@@ -28,17 +29,20 @@
  *
  * HANDLES. A handle is a pointer that a function of this library has written. Set it to NULL before: a call that fails
  * leaves it so. A function that writes a handle doesn't free the old one. Each handle is freed once, by the function of
- * its type; freeing NULL does nothing. A garbling and a job keep what they need of their circuit, so handles are freed
- * in any order.
+ * its type; freeing NULL does nothing. Garblings, jobs, garblers and evaluators keep what they need of their circuit,
+ * so handles are freed in any order.
  *
  * THREADS. No function starts a thread, takes a lock or waits. A call with a const handle only reads it, so any number
- * of them may use one handle at once, on any threads, and none fails because another is running. The others are
- * those that free: free a handle when no call uses it, and no call comes after. What a call writes, such as a new
- * handle, may be used by another thread once that thread knows that the call has returned.
+ * of them may use one handle at once, on any threads, and none fails because another is running. The others need their
+ * handle alone: halfgates_garbler_next and halfgates_evaluator_feed change a garbler or an evaluator, so make them when
+ * no other call uses it; its circuit is only read, and stays shared. Free a handle when no call uses it, and no call
+ * comes after. What a call writes, such as a new handle, may be used by another thread once that thread knows that the
+ * call has returned.
  *
- * STACK. As measured on x86-64, halfgates_job_bind uses 53 kilobytes of stack, halfgates_garbling_write 43,
- * halfgates_audit 40, halfgates_write_many 37, halfgates_circuit_read 22, halfgates_circuit_order 22, halfgates_deal 20,
- * halfgates_circuit_text 9, and every other call less than 5.
+ * STACK. As measured on x86-64, halfgates_job_bind uses 53 kilobytes of stack, halfgates_garbling_write 41,
+ * halfgates_audit 41, halfgates_write_many 37, halfgates_circuit_read 22, halfgates_circuit_order 22,
+ * halfgates_circuit_from_gates 22, halfgates_evaluator_feed 12, halfgates_evaluate_labels 12, halfgates_garbler_next
+ * 11, halfgates_circuit_text 9, and every other call less than 5.
  *
  * BUFFERS. The library reads and writes buffers within a call and keeps no pointer to them. Buffers of bytes need no
  * alignment. A buffer that is written overlaps no other argument, and has at least the room that is needed, else the
@@ -58,13 +62,24 @@
  * so a wire's labels have different colours. AND gates are numbered in file order, from a number `first` on: 0 under a
  * seed. Under one offset use no AND number twice: the next circuit's `first` is at least this one's `first` plus its
  * number of AND gates. Two AND gates of one number that read the same wire first reveal the offset: their generator
- * rows differ by it or by nothing. Garbled files are those of `first` 0. In version 2 their entries use the numbers
- * behind the AND gates, so leave (output wires + 1) / 2 more numbers free where such a file is sent. The library can't
- * check any of this.
+ * rows differ by it or by nothing. If a garbler is freed before its end, all its numbers count as used, from `first` to
+ * `first` plus its number of AND gates. Garbled files are those of `first` 0. In version 2 their entries use the
+ * numbers behind the AND gates, so leave (output wires + 1) / 2 more numbers free where such a file is sent. The
+ * library can't check any of this.
  *
- * SECRETS. Whoever has a seed, an offset or a garbling knows all labels. No branch and no address depends on seeds,
- * offsets, labels or bits, beyond what codes and outputs say, and memory is wiped before it is freed. This is tested,
- * for x86-64, and not proved; the audits are left out. The stack and your buffers aren't wiped. SECURITY.md says more.
+ * STREAMING. halfgates_garbler_begin or halfgates_garbler_begin_from makes a garbler, and halfgates_garbler_next
+ * produces its row pairs in file order, in pieces of any size; halfgates_evaluator_feed takes them as they come.
+ * Together the pieces are the row pairs of halfgates_garble or halfgates_garble_from, and the evaluator's output labels
+ * are those of halfgates_evaluate_labels. Neither keeps row pairs, and both allocate only when they begin. Send the
+ * labels of input wires, such as by an oblivious transfer, before the row pairs or beside them, and decode bits last:
+ *
+ *     garbler: begin, offset and input labels, next .. next, output labels, decode bits, free
+ *     evaluator: begin with active labels, feed .. feed, output labels, free
+ *
+ * SECRETS. Whoever has a seed, an offset, a garbling or a garbler knows all labels. No branch and no address depends on
+ * seeds, offsets, labels or bits, beyond what codes and outputs say, and memory is wiped before it is freed. This is
+ * tested, for x86-64, and not proved; the audits are left out. The stack and your buffers aren't wiped. SECURITY.md
+ * says more.
  */
 #ifndef HALFGATES_H
 #define HALFGATES_H
@@ -75,7 +90,7 @@
 /* The version of this header. That of the library is halfgates_version(). */
 #define HALFGATES_VERSION_MAJOR 0
 #define HALFGATES_VERSION_MINOR 9
-#define HALFGATES_VERSION_PATCH 6
+#define HALFGATES_VERSION_PATCH 7
 
 #ifdef __cplusplus
 extern "C" {
@@ -127,17 +142,17 @@ enum {
     HALFGATES_UNKNOWN_OUTPUT_LABEL = 48, /* an output's label isn't one that the garbled file recognises (version 2) */
 
     /* Codes of this library only. */
-    HALFGATES_BAD_ARGUMENT = 60, /* no such version, wire or output, an offset of colour 0, an AND number that is too
-                                    large, a file of a garbling whose `first` isn't 0 */
+    HALFGATES_BAD_ARGUMENT = 60, /* no such version, wire, output or AND gate, an offset of colour 0, an AND number that
+                                    is too large, a file of a garbling whose `first` isn't 0 */
     HALFGATES_SMALL_BUFFER = 61, /* a buffer has too little room */
     HALFGATES_MEMORY = 62,       /* memory ran out for a handle, a file or a list */
-
-    /* A verdict of halfgates_audit_labels, not a code: a label is neither of the two labels of its wire. */
-    HALFGATES_WRONG_LABEL = 63,
-
+    HALFGATES_WRONG_LABEL = 63,  /* a label is neither of the two labels of its wire: a code of halfgates_open, and a
+                                    verdict of halfgates_audit_labels */
     HALFGATES_NULL_POINTER = 64, /* a NULL for a handle, a buffer with a size or a place to write to */
     HALFGATES_WRONG_HANDLE = 65, /* a handle of another type, such as a garbling in place of a circuit */
-    HALFGATES_WRONG_SIZE = 66    /* a buffer that is read has a wrong size */
+    HALFGATES_WRONG_SIZE = 66,   /* a buffer that is read has a wrong size */
+    HALFGATES_UNFINISHED = 67    /* row pairs are left: a garbler hasn't made all of them, or an evaluator hasn't taken
+                                    all of them */
 };
 
 /* A name or a version, ended by a zero byte. */
@@ -154,7 +169,7 @@ halfgates_name halfgates_fault_name(int32_t code);
 /* Whether a code says that memory ran out: 1 for 13, 23, 36, 46 and 62, and else 0. */
 int32_t halfgates_is_memory(int32_t code);
 
-/* The version of the library, such as "0.9.6". */
+/* The version of the library, such as "0.9.7". */
 halfgates_name halfgates_version(void);
 
 /* ---------------------------------------------------------------------------------------------------- circuits -- */
@@ -176,10 +191,10 @@ int32_t halfgates_circuit_share(const halfgates_circuit *circuit, halfgates_circ
 
 /*
  * Writes a handle of the circuit with its gates in order of AND depth: the gates that set wires of one AND depth follow
- * one another, its AND gates first, each kind in file order. It has the same gates and computes the same. One garbling
- * or one evaluation of it can take half the time; halfgates_garble_many and halfgates_evaluate_many gain nothing. Its
- * digest and the numbers of its AND gates are others, so both parties need it: the evaluator orders too, or reads the
- * text that halfgates_circuit_text writes. Code: HALFGATES_MEMORY.
+ * one another, its AND gates first, each kind in file order. It has the same gates and computes the same. One
+ * evaluation of it can take half the time, and one garbling 0.7 to 0.8 of the time; halfgates_garble_many and
+ * halfgates_evaluate_many gain nothing. Its digest and the numbers of its AND gates are others, so both parties need
+ * it: the evaluator orders too, or reads the text that halfgates_circuit_text writes. Code: HALFGATES_MEMORY.
  */
 int32_t halfgates_circuit_order(const halfgates_circuit *circuit, halfgates_circuit **ordered);
 
@@ -236,6 +251,49 @@ typedef struct halfgates_place {
  */
 int32_t halfgates_locate(const uint8_t *text, size_t length, halfgates_place *place);
 
+/* A sentence, ended by a zero byte. The bytes after it are zeros too. */
+typedef struct halfgates_sentence {
+    char text[256];
+} halfgates_sentence;
+
+/*
+ * Explains the first fault of a text, which halfgates_circuit_read gives: the sentence that the program prints after
+ * the place with --explain, such as "gate 3, wire 9: the gate reads a wire that is no input and that no earlier gate
+ * sets". It names the gate and the wire that halfgates_locate gives. Where the text looks like another format, it ends
+ * with a hint. For a text that is a circuit it is "". Code: HALFGATES_CIRCUIT_MEMORY. For a text with a fault too the
+ * code is HALFGATES_OK.
+ */
+int32_t halfgates_explain(const uint8_t *text, size_t length, halfgates_sentence *sentence);
+
+/* The operations of halfgates_gate. */
+enum {
+    HALFGATES_XOR = 0, /* the exclusive or of two wires */
+    HALFGATES_AND = 1, /* the conjunction of two wires */
+    HALFGATES_INV = 2, /* the negation of a wire */
+    HALFGATES_EQ = 3,  /* a constant */
+    HALFGATES_EQW = 4  /* a copy of a wire */
+};
+
+/* A gate. */
+typedef struct halfgates_gate {
+    uint32_t operation; /* one of the operations above */
+    uint32_t first;     /* the wire that it reads first, and for HALFGATES_EQ the constant, 0 or 1 */
+    uint32_t second;    /* the wire that HALFGATES_XOR and HALFGATES_AND read second; the others ignore it */
+    uint32_t set;       /* the wire that it sets */
+} halfgates_gate;
+
+/*
+ * Makes a circuit of `count` gates in this order, of `wires` wires, and of values of these widths: what
+ * halfgates_circuit_read makes of the canonical text of these. Where each wire is an input wire or set by a gate,
+ * `wires` is the sum of the input widths plus `count`. Codes: those of reading that text, 2, 3, 5 to 10, 12 and 13, of
+ * which 2 is for a count above 4,294,967,295; HALFGATES_MEMORY. `place` may be NULL. For a code from 2 to 12 it gets
+ * the fault, the gate and the wire, with line and column 0.
+ */
+int32_t halfgates_circuit_from_gates(const halfgates_gate *gates, size_t count, uint32_t wires,
+                                     const uint32_t *input_widths, size_t input_values,
+                                     const uint32_t *output_widths, size_t output_values,
+                                     halfgates_circuit **circuit, halfgates_place *place);
+
 /*
  * Evaluates a circuit in the clear. `bits` are those of all input wires, `size` bytes; `outputs` takes the bits of all
  * output wires. Codes: HALFGATES_SMALL_BUFFER, HALFGATES_WRONG_LENGTH, HALFGATES_BAD_DIGIT, HALFGATES_CIRCUIT_MEMORY.
@@ -257,7 +315,8 @@ int32_t halfgates_garble(const halfgates_circuit *circuit, const uint8_t seed[32
 /*
  * Garbles a circuit under `count` seeds, 32 bytes each and one after another, on the calling thread, and writes `count`
  * garblings to `garblings`. Each is the garbling that halfgates_garble makes under its seed. Two at a time are made
- * side by side, which takes less time. The codes are the same. A call that fails makes no garbling.
+ * side by side, which takes less time with AVX2, and up to a fifth more without. The codes are the same. A call that
+ * fails makes no garbling.
  */
 int32_t halfgates_garble_many(const halfgates_circuit *circuit, const uint8_t *seeds, size_t count,
                               halfgates_garbling **garblings);
@@ -348,8 +407,24 @@ int32_t halfgates_output_labels(const halfgates_garbling *garbling, uint32_t ind
  */
 int32_t halfgates_rows(const halfgates_garbling *garbling, uint8_t *rows, size_t size);
 
+/*
+ * Writes the row pairs of `count` AND gates from AND gate `from` on, counted from 0 in file order, 32 bytes each.
+ * Codes: HALFGATES_BAD_ARGUMENT where `from` + `count` is more than the number of AND gates, HALFGATES_SMALL_BUFFER.
+ */
+int32_t halfgates_rows_range(const halfgates_garbling *garbling, uint32_t from, uint32_t count, uint8_t *rows,
+                             size_t size);
+
 /* Writes the decode bits of a garbling, a byte 0 or 1 for each output wire in order. Code: HALFGATES_SMALL_BUFFER. */
 int32_t halfgates_decode_bits(const halfgates_garbling *garbling, uint8_t *bits, size_t size);
+
+/*
+ * Opens labels of the output value `index` that an evaluator returned, `labels_size` bytes, 16 for each wire: writes
+ * the bit that each stands for, 0 or 1. Unlike halfgates_decode it takes only labels of this garbling. Codes:
+ * HALFGATES_NO_SUCH_VALUE, HALFGATES_WRONG_SIZE, HALFGATES_SMALL_BUFFER, HALFGATES_WRONG_LABEL where a label is neither
+ * of the two labels of its wire; then no bit is written.
+ */
+int32_t halfgates_open(const halfgates_garbling *garbling, uint32_t index, const uint8_t *labels, size_t labels_size,
+                       uint8_t *bits, size_t size);
 
 /*
  * Writes the zero label of a wire, 16 bytes: 16 zero bytes for a wire that no gate sets and that is no input wire.
@@ -415,6 +490,14 @@ int32_t halfgates_evaluate(const halfgates_job *job, uint8_t *bits, size_t size)
 int32_t halfgates_evaluate_many(halfgates_job *const *jobs, size_t count, uint8_t *bits, size_t size);
 
 /*
+ * Evaluates `count` jobs as halfgates_evaluate_many does, where a job that fails leaves the others as they are: `codes`
+ * takes `count` codes, each the one that halfgates_evaluate returns for its job, HALFGATES_OK, HALFGATES_JOB_MEMORY or
+ * HALFGATES_UNKNOWN_OUTPUT_LABEL, and the bits of a job are written where its code is HALFGATES_OK. The call itself
+ * returns HALFGATES_SMALL_BUFFER, HALFGATES_MEMORY, or the code of a wrong handle; then nothing is written.
+ */
+int32_t halfgates_evaluate_each(halfgates_job *const *jobs, size_t count, uint8_t *bits, size_t size, int32_t *codes);
+
+/*
  * Evaluates a job on the calling thread, and writes the active labels of all output wires, 16 bytes each. They are not
  * decoded: in version 2 too, labels that the garbled file doesn't recognise are written. Codes: HALFGATES_SMALL_BUFFER,
  * HALFGATES_JOB_MEMORY.
@@ -442,6 +525,89 @@ int32_t halfgates_evaluate_labels(const halfgates_circuit *circuit, const uint8_
  */
 int32_t halfgates_decode(const uint8_t *labels, size_t labels_size, const uint8_t *decode_bits, size_t count,
                          uint8_t *bits, size_t size);
+
+/* --------------------------------------------------------------------------------------------------- streaming -- */
+
+/* A garbling in progress. It produces its row pairs in pieces, in file order, and keeps none of them. */
+typedef struct halfgates_garbler halfgates_garbler;
+
+/*
+ * Begins to garble a circuit under a seed of 32 bytes, as halfgates_garble does. It allocates all that later calls
+ * need. Codes: HALFGATES_GARBLING_MEMORY, HALFGATES_MEMORY.
+ */
+int32_t halfgates_garbler_begin(const halfgates_circuit *circuit, const uint8_t seed[32], halfgates_garbler **garbler);
+
+/*
+ * Begins to garble a circuit from an offset, zero labels and a first AND number, as halfgates_garble_from does. Codes:
+ * HALFGATES_WRONG_SIZE, HALFGATES_BAD_ARGUMENT, HALFGATES_GARBLING_MEMORY, HALFGATES_MEMORY. See LABELS on `first`.
+ */
+int32_t halfgates_garbler_begin_from(const halfgates_circuit *circuit, const uint8_t offset[16],
+                                     const uint8_t *zero_labels, size_t size, uint64_t first,
+                                     halfgates_garbler **garbler);
+
+/* Frees a garbler, at any time: before its end this abandons the garbling. */
+void halfgates_garbler_free(halfgates_garbler *garbler);
+
+/* Writes the offset of a garbler, 16 bytes, from the beginning on. */
+int32_t halfgates_garbler_offset(const halfgates_garbler *garbler, uint8_t offset[16]);
+
+/*
+ * Writes both labels of each wire of the input value `index`, from the beginning on: as halfgates_input_labels does, so
+ * that a transfer runs before the row pairs or beside them. Codes: HALFGATES_NO_SUCH_VALUE, HALFGATES_SMALL_BUFFER.
+ */
+int32_t halfgates_garbler_input_labels(const halfgates_garbler *garbler, uint32_t index, uint8_t *zero, uint8_t *one,
+                                       size_t size);
+
+/*
+ * Garbles the next AND gates in file order: writes as many whole row pairs, 32 bytes each, as `size` bytes have room
+ * for, and the number of bytes to `written`. It writes 0 there once all row pairs are written. What `rows` has behind
+ * them stays. It allocates nothing. Code: HALFGATES_SMALL_BUFFER where `size` is less than 32 and row pairs are left;
+ * then nothing changes. This call needs the garbler alone.
+ */
+int32_t halfgates_garbler_next(halfgates_garbler *garbler, uint8_t *rows, size_t size, size_t *written);
+
+/*
+ * Writes both labels of each wire of the output value `index`, once all row pairs are written: as
+ * halfgates_output_labels does. A garbler of a circuit without AND gates has them from the beginning on. Codes:
+ * HALFGATES_UNFINISHED where row pairs are left, HALFGATES_NO_SUCH_VALUE, HALFGATES_SMALL_BUFFER.
+ */
+int32_t halfgates_garbler_output_labels(const halfgates_garbler *garbler, uint32_t index, uint8_t *zero, uint8_t *one,
+                                        size_t size);
+
+/*
+ * Writes the decode bits, a byte 0 or 1 for each output wire in order, once all row pairs are written. They are apart
+ * from the labels, so that they can be held back. Codes: HALFGATES_UNFINISHED as above, HALFGATES_SMALL_BUFFER.
+ */
+int32_t halfgates_garbler_decode_bits(const halfgates_garbler *garbler, uint8_t *bits, size_t size);
+
+/* An evaluation in progress. It takes row pairs in pieces, and keeps none of them. */
+typedef struct halfgates_evaluator halfgates_evaluator;
+
+/*
+ * Begins to evaluate a circuit with the active labels of all input wires, `size` bytes, which is 16 * input_wires, and
+ * the number `first` of its first AND gate. It allocates all that later calls need. Nothing of the labels is
+ * trusted. Codes: HALFGATES_WRONG_SIZE, HALFGATES_BAD_ARGUMENT where `first` is too large, HALFGATES_JOB_MEMORY,
+ * HALFGATES_MEMORY.
+ */
+int32_t halfgates_evaluator_begin(const halfgates_circuit *circuit, uint64_t first, const uint8_t *labels, size_t size,
+                                  halfgates_evaluator **evaluator);
+
+/* Frees an evaluator, at any time. */
+void halfgates_evaluator_free(halfgates_evaluator *evaluator);
+
+/*
+ * Evaluates the next AND gates in file order with the whole row pairs that `size` bytes have, 32 bytes each, and writes
+ * the number of their bytes to `taken`: a part of a row pair at the end is left for the next call. Nothing of the row
+ * pairs is trusted. It allocates nothing. Code: HALFGATES_WRONG_SIZE where there are more whole row pairs than are
+ * left; then nothing changes. This call needs the evaluator alone.
+ */
+int32_t halfgates_evaluator_feed(halfgates_evaluator *evaluator, const uint8_t *rows, size_t size, size_t *taken);
+
+/*
+ * Writes the active labels of all output wires, 16 bytes each, once all row pairs are taken: from the beginning on for
+ * a circuit without AND gates. Codes: HALFGATES_UNFINISHED where row pairs are left, HALFGATES_SMALL_BUFFER.
+ */
+int32_t halfgates_evaluator_output_labels(const halfgates_evaluator *evaluator, uint8_t *labels, size_t size);
 
 /* ------------------------------------------------------------------------------------------------------- audit -- */
 

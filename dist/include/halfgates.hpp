@@ -7,8 +7,9 @@
  *     halfgates::bytes garbled = garbling.write();
  *
  * Handles are moved and not copied, and are freed when their scope ends. A call that fails throws a `fault`, and where
- * memory for a result runs out std::bad_alloc. All calls on a handle are const: threads may use one object at once. The
- * numbers, widths and digest of a circuit are read once.
+ * memory for a result runs out std::bad_alloc. Calls on a handle are const, so that threads may use one object at once,
+ * but for garbler::rows_into, garbler::next and evaluator::feed, which need theirs alone. The numbers, widths and
+ * digest of a circuit are read once.
  *
  * What a call reads is a container of bytes or labels, such as a vector, a string, an array or a span, a `view`, or a
  * list such as {0, 1}. It is read where it is. The text of a circuit can also be a string literal, or another string
@@ -32,6 +33,7 @@
 #include <exception>
 #include <initializer_list>
 #include <memory>
+#include <string>
 #include <system_error>
 #include <type_traits>
 #include <utility>
@@ -61,6 +63,14 @@ public:
         std::snprintf(what_, sizeof what_, "fault %d %s", static_cast<int>(code), name_.text);
     }
 
+    /* The first fault of a text, whose place and sentence what() says. */
+    fault(const halfgates_place &place, const halfgates_sentence &sentence) noexcept
+        : code_(place.fault), name_(halfgates_fault_name(place.fault)) {
+        std::snprintf(what_, sizeof what_, "fault %d %s: line %llu, column %llu: %s", static_cast<int>(code_),
+                      name_.text, static_cast<unsigned long long>(place.line),
+                      static_cast<unsigned long long>(place.column), sentence.text);
+    }
+
     std::int32_t code() const noexcept { return code_; }
     const char *name() const noexcept { return name_.text; }
     const char *what() const noexcept override { return what_; }
@@ -71,13 +81,27 @@ public:
 private:
     std::int32_t code_;
     halfgates_name name_;
-    char what_[64];
+    char what_[384];
 };
 
 inline void check(std::int32_t code) {
     if (code != HALFGATES_OK)
         throw fault(code);
 }
+
+/* Gates aren't those of a circuit: the fault, and where it is. */
+class gate_fault : public fault {
+public:
+    explicit gate_fault(const halfgates_place &place) noexcept
+        : fault(place.fault), gate_(place.gate), wire_(place.wire) {}
+
+    /* The gate and the wire at fault, or HALFGATES_NONE. */
+    std::uint32_t gate() const noexcept { return gate_; }
+    std::uint32_t wire() const noexcept { return wire_; }
+
+private:
+    std::uint32_t gate_, wire_;
+};
 
 namespace detail {
 
@@ -149,6 +173,18 @@ inline view text_of(const char *text) noexcept {
     return view(text, text == nullptr ? 1 : std::strlen(text));
 }
 
+/* Throws the fault of reading a text, unless the code is that of success. Finding its place and its sentence reads the
+ * text twice more. */
+inline void check_text(std::int32_t code, const input &text) {
+    halfgates_place place = halfgates_place();
+    halfgates_sentence sentence;
+    if (code >= HALFGATES_CIRCUIT_TRUNCATED && code <= HALFGATES_WIDTHS_EXCEED_WIRES &&
+        halfgates_locate(text.data(), text.size(), &place) == HALFGATES_OK && place.fault == code &&
+        halfgates_explain(text.data(), text.size(), &sentence) == HALFGATES_OK)
+        throw fault(place, sentence);
+    check(code);
+}
+
 struct copied {
     bytes copy_;
 };
@@ -217,6 +253,19 @@ struct label_pairs {
     labels zero;
     labels one;
 };
+
+namespace detail {
+
+/* Both labels of each wire of a value, which a call writes for a handle. */
+template <class Call, class Handle>
+label_pairs pairs(Call call, const Handle *handle, const std::vector<std::uint32_t> &widths, std::uint32_t index) {
+    const std::size_t width = index < widths.size() ? widths[index] : 0;
+    label_pairs found{labels(width), labels(width)};
+    check(call(handle, index, room(found.zero), room(found.one), 16 * width));
+    return found;
+}
+
+} // namespace detail
 
 /* What an audit finds of a label file, and the bits that its labels stand for. */
 struct labels_audit {
@@ -295,6 +344,28 @@ public:
     /* Writes the row pairs to a buffer with this much room. */
     void rows_into(std::uint8_t *buffer, std::size_t size) const { check(halfgates_rows(get(), buffer, size)); }
 
+    /* The row pairs of `count` AND gates from AND gate `from` on. */
+    HALFGATES_NODISCARD bytes rows_range(std::uint32_t from, std::uint32_t count) const {
+        const std::uint32_t all = shape_.numbers.and_gates;
+        check(from <= all && count <= all - from ? HALFGATES_OK : HALFGATES_BAD_ARGUMENT);
+        bytes found(32 * static_cast<std::size_t>(count));
+        rows_range_into(from, count, found.data(), found.size());
+        return found;
+    }
+
+    /* Writes them to a buffer with this much room. */
+    void rows_range_into(std::uint32_t from, std::uint32_t count, std::uint8_t *buffer, std::size_t size) const {
+        check(halfgates_rows_range(get(), from, count, buffer, size));
+    }
+
+    /* The bits of labels of an output value that an evaluator returned. A label that is neither of its wire's two
+     * throws HALFGATES_WRONG_LABEL. */
+    HALFGATES_NODISCARD bytes open(std::uint32_t index, const detail::input &returned) const {
+        bytes bits(index < shape_.output_widths.size() ? shape_.output_widths[index] : 0);
+        check(halfgates_open(get(), index, returned.data(), returned.size(), bits.data(), bits.size()));
+        return bits;
+    }
+
     HALFGATES_NODISCARD label_pairs input_labels(std::uint32_t index) const {
         return pairs(halfgates_input_labels, shape_.input_widths, index);
     }
@@ -340,14 +411,109 @@ public:
 private:
     template <class Call>
     label_pairs pairs(Call call, const std::vector<std::uint32_t> &widths, std::uint32_t index) const {
-        const std::size_t width = index < widths.size() ? widths[index] : 0;
-        label_pairs found{halfgates::labels(width), halfgates::labels(width)};
-        check(call(get(), index, detail::room(found.zero), detail::room(found.one), 16 * width));
-        return found;
+        return detail::pairs(call, get(), widths, index);
     }
 
     detail::handle<halfgates_garbling, halfgates_garbling_free> handle_;
     shape shape_;
+};
+
+/* A garbling in progress, which produces its row pairs in pieces:
+ *
+ *     for (halfgates::bytes rows = garbler.next(4096); !rows.empty(); rows = garbler.next(4096))
+ *         send(rows);
+ */
+class garbler {
+public:
+    garbler() noexcept : shape_(), left_(0) {}
+
+    /* Takes over a garbler, just begun, of a circuit of this shape. */
+    garbler(halfgates_garbler *at, const shape &of) : handle_(at), shape_(of), left_(of.numbers.and_gates) {}
+
+    HALFGATES_NODISCARD label offset() const {
+        label found;
+        check(halfgates_garbler_offset(get(), found.data()));
+        return found;
+    }
+
+    HALFGATES_NODISCARD label_pairs input_labels(std::uint32_t index) const {
+        return detail::pairs(halfgates_garbler_input_labels, get(), shape_.input_widths, index);
+    }
+
+    /* Garbles the next AND gates: writes as many row pairs as this much room takes, and returns the number of their
+     * bytes, or 0 once all are written. */
+    std::size_t rows_into(std::uint8_t *buffer, std::size_t size) {
+        std::size_t written = 0;
+        check(halfgates_garbler_next(get(), buffer, size, &written));
+        left_ -= written / 32;
+        return written;
+    }
+
+    /* Garbles the next AND gates, at most this many, and returns their row pairs, or nothing once all were returned. */
+    HALFGATES_NODISCARD bytes next(std::size_t and_gates) {
+        bytes rows(32 * std::min(and_gates, left_));
+        rows_into(rows.data(), rows.size());
+        return rows;
+    }
+
+    /* How many row pairs are left. */
+    std::size_t left() const noexcept { return *this ? left_ : 0; }
+
+    /* Once no row pairs are left: both labels of each wire of an output value. */
+    HALFGATES_NODISCARD label_pairs output_labels(std::uint32_t index) const {
+        return detail::pairs(halfgates_garbler_output_labels, get(), shape_.output_widths, index);
+    }
+
+    /* Once no row pairs are left: the decode bits of all output wires. */
+    HALFGATES_NODISCARD bytes decode_bits() const {
+        bytes bits(shape_.numbers.output_wires);
+        check(halfgates_garbler_decode_bits(get(), bits.data(), bits.size()));
+        return bits;
+    }
+
+    halfgates_garbler *get() const noexcept { return handle_.get(); }
+    explicit operator bool() const noexcept { return get() != nullptr; }
+
+private:
+    detail::handle<halfgates_garbler, halfgates_garbler_free> handle_;
+    shape shape_;
+    std::size_t left_;
+};
+
+/* An evaluation in progress, which takes row pairs as they come. */
+class evaluator {
+public:
+    evaluator() noexcept : outputs_(0), left_(0) {}
+
+    /* Takes over an evaluator, just begun, of a circuit of this shape. */
+    evaluator(halfgates_evaluator *at, const shape &of) noexcept
+        : handle_(at), outputs_(of.numbers.output_wires), left_(of.numbers.and_gates) {}
+
+    /* Evaluates the next AND gates with these row pairs, and returns how many bytes it took: a part of a row pair at
+     * the end is left. */
+    HALFGATES_NODISCARD std::size_t feed(const detail::input &rows) {
+        std::size_t taken = 0;
+        check(halfgates_evaluator_feed(get(), rows.data(), rows.size(), &taken));
+        left_ -= taken / 32;
+        return taken;
+    }
+
+    /* How many row pairs are left. */
+    std::size_t left() const noexcept { return *this ? left_ : 0; }
+
+    /* Once no row pairs are left: the active labels of all output wires. */
+    HALFGATES_NODISCARD labels output_labels() const {
+        labels found(outputs_);
+        check(halfgates_evaluator_output_labels(get(), detail::room(found), 16 * found.size()));
+        return found;
+    }
+
+    halfgates_evaluator *get() const noexcept { return handle_.get(); }
+    explicit operator bool() const noexcept { return get() != nullptr; }
+
+private:
+    detail::handle<halfgates_evaluator, halfgates_evaluator_free> handle_;
+    std::size_t outputs_, left_;
 };
 
 class job {
@@ -388,10 +554,29 @@ public:
 
     explicit circuit(const char *text) : circuit(detail::text_of(text)) {}
 
+    /* Where the text is that of no circuit, what() of the fault says the line, the column and the sentence. */
     explicit circuit(const detail::input &text) {
         halfgates_circuit *at = nullptr;
-        check(halfgates_circuit_read(text.data(), text.size(), &at));
+        detail::check_text(halfgates_circuit_read(text.data(), text.size(), &at), text);
         take(at);
+    }
+
+    /* The circuit of these gates in this order, of this many wires, and of values of these widths. Where they are none,
+     * it throws gate_fault. */
+    HALFGATES_NODISCARD static circuit from_gates(const std::vector<halfgates_gate> &gates, std::uint32_t wires,
+                                                  const std::vector<std::uint32_t> &input_widths,
+                                                  const std::vector<std::uint32_t> &output_widths) {
+        halfgates_circuit *at = nullptr;
+        halfgates_place place = halfgates_place();
+        const std::int32_t code = halfgates_circuit_from_gates(
+            gates.data(), gates.size(), wires, input_widths.data(), input_widths.size(), output_widths.data(),
+            output_widths.size(), &at, &place);
+        if (place.fault != HALFGATES_OK && place.fault == code)
+            throw gate_fault(place);
+        check(code);
+        circuit made;
+        made.take(at);
+        return made;
     }
 
     /* One more handle of the same circuit, without a copy. */
@@ -462,6 +647,29 @@ public:
         halfgates_garbling *at = nullptr;
         check(halfgates_garble_from(get(), offset.data(), zero_labels.data(), zero_labels.size(), first, &at));
         return halfgates::garbling(at, shape_);
+    }
+
+    /* Begins to garble in pieces, as `garble` does. */
+    HALFGATES_NODISCARD halfgates::garbler garbler(const seed &key) const {
+        halfgates_garbler *at = nullptr;
+        check(halfgates_garbler_begin(get(), key.data(), &at));
+        return halfgates::garbler(at, shape_);
+    }
+
+    /* Begins to garble in pieces, as `garble_from` does. A garbler that is dropped before its end has used all its AND
+     * numbers. */
+    HALFGATES_NODISCARD halfgates::garbler garbler_from(const label &offset, const detail::input &zero_labels,
+                                                        std::uint64_t first) const {
+        halfgates_garbler *at = nullptr;
+        check(halfgates_garbler_begin_from(get(), offset.data(), zero_labels.data(), zero_labels.size(), first, &at));
+        return halfgates::garbler(at, shape_);
+    }
+
+    /* Begins to evaluate in pieces, from the active labels of all input wires. */
+    HALFGATES_NODISCARD halfgates::evaluator evaluator(std::uint64_t first, const detail::input &active) const {
+        halfgates_evaluator *at = nullptr;
+        check(halfgates_evaluator_begin(get(), first, active.data(), active.size(), &at));
+        return halfgates::evaluator(at, shape_);
     }
 
     /* The label file of an input value. */
@@ -555,22 +763,57 @@ HALFGATES_NODISCARD inline std::vector<bytes> write_many(const std::vector<garbl
     return files;
 }
 
+namespace detail {
+
+/* A list of jobs as a call takes it, with room for their bits, joined and for each. */
+struct job_list {
+    std::vector<halfgates_job *> handles;
+    std::vector<bytes> outputs;
+    bytes bits;
+
+    explicit job_list(const std::vector<job> &jobs) {
+        std::size_t size = 0;
+        handles.reserve(jobs.size());
+        outputs.reserve(jobs.size());
+        for (const job &it : jobs) {
+            handles.push_back(it.get());
+            outputs.emplace_back(it.outputs());
+            size += it.outputs();
+        }
+        bits.resize(size);
+    }
+};
+
+} // namespace detail
+
 /* The bits of all output wires of each job. Up to four jobs in a row on equal circuits are evaluated side by side. */
 HALFGATES_NODISCARD inline std::vector<bytes> evaluate_many(const std::vector<job> &jobs) {
-    std::vector<bytes> outputs;
-    std::vector<halfgates_job *> handles;
-    std::size_t size = 0;
-    outputs.reserve(jobs.size());
-    handles.reserve(jobs.size());
-    for (const job &it : jobs) {
-        outputs.emplace_back(it.outputs());
-        handles.push_back(it.get());
-        size += it.outputs();
-    }
-    bytes bits(size);
-    check(halfgates_evaluate_many(handles.data(), handles.size(), bits.data(), bits.size()));
-    detail::cut(bits, outputs);
-    return outputs;
+    detail::job_list list(jobs);
+    bytes &bits = list.bits;
+    check(halfgates_evaluate_many(list.handles.data(), jobs.size(), bits.data(), bits.size()));
+    detail::cut(bits, list.outputs);
+    return std::move(list.outputs);
+}
+
+/* What came of a job: a code as halfgates_evaluate returns it, and where it is HALFGATES_OK the bits of all output
+ * wires. */
+struct outcome {
+    std::int32_t code;
+    bytes bits;
+};
+
+/* What comes of each job, side by side as by evaluate_many. A job that fails leaves the others as they are. */
+HALFGATES_NODISCARD inline std::vector<outcome> evaluate_each(const std::vector<job> &jobs) {
+    detail::job_list list(jobs);
+    bytes &bits = list.bits;
+    std::vector<std::int32_t> codes(jobs.size());
+    std::vector<outcome> found;
+    found.reserve(jobs.size());
+    check(halfgates_evaluate_each(list.handles.data(), jobs.size(), bits.data(), bits.size(), codes.data()));
+    detail::cut(bits, list.outputs);
+    for (std::size_t i = 0; i < jobs.size(); i++)
+        found.push_back({codes[i], codes[i] == HALFGATES_OK ? std::move(list.outputs[i]) : bytes()});
+    return found;
 }
 
 /* The bits of active output labels, by the decode bits of their wires. */
@@ -590,6 +833,17 @@ HALFGATES_NODISCARD inline halfgates_place locate(const detail::input &text) {
 
 HALFGATES_NODISCARD inline halfgates_place locate(const char *text) {
     return locate(detail::text_of(text));
+}
+
+/* The sentence on the first fault of a text, and an empty one for a circuit. */
+HALFGATES_NODISCARD inline std::string explain(const detail::input &text) {
+    halfgates_sentence sentence;
+    check(halfgates_explain(text.data(), text.size(), &sentence));
+    return sentence.text;
+}
+
+HALFGATES_NODISCARD inline std::string explain(const char *text) {
+    return explain(detail::text_of(text));
 }
 
 } // namespace halfgates
