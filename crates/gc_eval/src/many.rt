@@ -21,10 +21,10 @@ use std::thread::Threads;
 
 /// Evaluates a job with this number of workers: the result is what [`evaluate`] returns, honest job or not. The calling
 /// thread is worker 0; a thread is started for each other worker that has something to do, and where one can't be
-/// started the calling thread does its work too. Where half of the gates are AND and three gates in four need no gate of
-/// another worker's share ([`way_of`]), each has a seat at a board. Else worker 0 evaluates alone, as it does where the
-/// workers can't have their memory. `observer.before` is called for each gate before it is evaluated, and ahead of each
-/// step at a board.
+/// started the calling thread does its work too. Where three gates in four are AND, and as many need no gate of another
+/// worker's share ([`way_of`]), each has a seat at a board. Else worker 0 evaluates alone, as it does where the workers
+/// can't have their memory. `observer.before` is called for each gate before it is evaluated, and ahead of each step at
+/// a board.
 ///
 /// It refuses 0 workers and more than [`MAX_WORKERS`]: 22.
 pub fn evaluate_many<

@@ -2,6 +2,6 @@
 use Rattle.std.specs.Prelude.{ℕ, ◌<◌, ◌*◌, length}
 use Rattle.gc_netlist.specs.Circuit.{Netlist, and_count}
 
--- Fewer than half of the gates are AND.
+-- Fewer than three quarters of the gates are AND.
 abbrev pub HasFewAnds : Netlist → Type 0
-HasFewAnds c = 2 * and_count c < length c.gates
+HasFewAnds c = 4 * and_count c < 3 * length c.gates

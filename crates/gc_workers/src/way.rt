@@ -22,7 +22,8 @@ pub enum Way {
 }
 
 /// The way that takes this many threads the least time. [`Way::Alone`] doesn't allocate for one thread, for a circuit
-/// with few AND gates, and where most gates aren't AND. Else it allocates for a number for each wire.
+/// with few AND gates, and where more than a quarter of the gates are others. Else it allocates for a number for each
+/// wire.
 ///
 /// No clause says which of the two ways it is otherwise.
 pub fn way_of<A: Allocator + Copy, C: Allocator>(
@@ -43,11 +44,11 @@ pub fn way_of<A: Allocator + Copy, C: Allocator>(
     }
 }
 
-/// Whether fewer than half of the gates are AND.
+/// Whether fewer than three quarters of the gates are AND.
 fn has_few_ands<C: Allocator>(circuit: &Circuit<C>) -> bool
     ensures { IsTrue result ↔ HasFewAnds circuit.now }
 {
-    2 * u64::from(circuit.and_count()) < u64::from(circuit.gates())
+    4 * u64::from(circuit.and_count()) < 3 * u64::from(circuit.gates())
 }
 
 /// Where each wire's value comes from, as far as shares of the file go: by wire, [`INPUT`], the share that gives it
