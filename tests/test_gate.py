@@ -23,7 +23,7 @@ TOOLS = "awk cat cmp cp diff dirname find grep mkdir mktemp nproc python3 rm sed
 
 STAND_INS = {
     "bin/rt": "#!/bin/sh\necho proving\necho 2 passed, 0 failed\n",
-    "build": "#!/bin/sh\nmkdir -p out && cp -R made out/dist\n",
+    "build": "#!/bin/sh\n[ $2 = gc_bench ] || { mkdir -p out && cp -R made out/dist; }\n",
     "tests/__main__.py": "print('3 passed, 0 failed')\n",
 }
 
@@ -62,7 +62,7 @@ class GateTest(unittest.TestCase):
         return done.returncode, done.stdout.splitlines()
 
     def test_with_the_kit(self):
-        self.assertEqual(self.run_test(), (0, ["proving", "10 passed, 0 failed"]))
+        self.assertEqual(self.run_test(), (0, ["proving", "11 passed, 0 failed"]))
 
     def test_without_the_kit(self):
         """It says first and last that nothing is proved."""
@@ -75,13 +75,13 @@ class GateTest(unittest.TestCase):
         """Failures of the prover and of the tests are counted, and a command that says no counts fails."""
         prover, tests = "#!/bin/sh\necho 1 passed, 1 failed\nexit 1\n", "print('3 passed, 2 failed')\nexit(1)\n"
         for files, has_kit, counts in (
-            ({"tests/__main__.py": tests}, True, "10 passed, 2 failed"),
+            ({"tests/__main__.py": tests}, True, "11 passed, 2 failed"),
             ({"tests/__main__.py": tests}, False, "4 passed, 2 failed"),
-            ({"bin/rt": prover}, True, "9 passed, 1 failed"),
-            ({"bin/rt": prover, "tests/__main__.py": tests}, True, "9 passed, 3 failed"),
+            ({"bin/rt": prover}, True, "10 passed, 1 failed"),
+            ({"bin/rt": prover, "tests/__main__.py": tests}, True, "10 passed, 3 failed"),
             ({"tests/__main__.py": "exit(1)\n"}, False, "1 passed, 1 failed"),
-            ({"tests/__main__.py": ""}, True, "7 passed, 1 failed"),
-            ({"bin/rt": "#!/bin/sh\n"}, True, "8 passed, 1 failed"),
+            ({"tests/__main__.py": ""}, True, "8 passed, 1 failed"),
+            ({"bin/rt": "#!/bin/sh\n"}, True, "9 passed, 1 failed"),
         ):
             write_all(self.top, {**STAND_INS, **files})
             status, lines = self.run_test(has_kit=has_kit)
@@ -94,7 +94,7 @@ class GateTest(unittest.TestCase):
         how = {"CDPATH": str(self.top / "else"), "PATH": f"{self.top}/bin:{self.top}/tools"}
         words = [shutil.which("sh"), "-c", script]
         done = subprocess.run(words, env=how, capture_output=True, text=True, check=False)
-        self.assertEqual((done.returncode, done.stdout), (0, "proving\n10 passed, 0 failed\n"))
+        self.assertEqual((done.returncode, done.stdout), (0, "proving\n11 passed, 0 failed\n"))
 
     def test_sources_without_a_tool(self):
         """Their checksum isn't that of fewer files, or of none."""
@@ -144,7 +144,7 @@ class GateTest(unittest.TestCase):
         header = FILES["include/halfgates.h"].replace("MINOR 1", "MINOR 2")
         write_all(self.top, {"include/halfgates.h": header})
         status, lines = self.run_test()
-        self.assertEqual((status, lines[-1]), (0, "6 passed, 0 failed"))
+        self.assertEqual((status, lines[-1]), (0, "7 passed, 0 failed"))
         self.assertIn("dist/ is release 3.1 and is not compared: the sources are version 3.2", lines)
 
 
