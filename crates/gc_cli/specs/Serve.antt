@@ -86,8 +86,8 @@ PrintsFault before after fault = PrintsLine before after (fault_line fault)
 
 -- Standard error, as it was before and after, has nothing more; or, where the fault of an order is to be explained, it
 -- has the line that explains it, unless a call to print that failed. `bytes` are those of the files.
-abbrev pub IsTold : FileBytes → OrderText → Bool → Fault → Printed → Printed → Type 0
-IsTold bytes order explains fault before after =
+abbrev pub AddsExplanation : FileBytes → OrderText → Bool → Fault → Printed → Printed → Type 0
+AddsExplanation bytes order explains fault before after =
     (after ≡ before)
     ⊎ (IsTrue explains
     × ((line : List ℕ) × Explains bytes order fault line × PrintsLine before after line))
@@ -97,7 +97,7 @@ abbrev pub TellsMore : FileBytes → List (List ℕ) → Bool → Fault → Prin
 TellsMore bytes words explains fault before after =
     (after ≡ before)
     ⊎ ((order : OrderText) × IsOrder words order
-    × IsTold bytes order (explains || explains_in words) fault before after)
+    × AddsExplanation bytes order (explains || explains_in words) fault before after)
 
 -- A fault ended the run, and standard error has its line, unless a call to print it failed, and after it perhaps the
 -- line that explains it.
@@ -106,8 +106,8 @@ abbrev pub EndsByFault : FileBytes → FileBytes → (List ℕ → Type 0) → L
 EndsByFault old new Failed words explains out out_after err err_after =
     (fault : Fault)
     × (IsFaulty old new Failed words out out_after fault
-    × ((told : Printed) × PrintsFault err told fault
-    × TellsMore new words explains fault told err_after))
+    × ((reported : Printed) × PrintsFault err reported fault
+    × TellsMore new words explains fault reported err_after))
 
 -- It has the line that says why the arguments can't be read.
 abbrev pub PrintsRefusal : Printed → Printed → ErrorKind → Type 0

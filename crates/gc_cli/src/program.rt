@@ -10,7 +10,7 @@ ghost use Rattle.gc_cli.specs.CarryOut.{Writes};
 ghost use Rattle.gc_cli.specs.CommandLine.{IsMistaken};
 ghost use Rattle.gc_cli.specs.Output.{Printed};
 ghost use Rattle.gc_cli.specs.Serve.{AskToWrite, EndsByFault, FailsToAnswer, FindsDishonest, IsDone};
-ghost use Rattle.gc_cli.specs.Serve.{IsTold, PrintsAnswer, PrintsFault, PrintsLine};
+ghost use Rattle.gc_cli.specs.Serve.{AddsExplanation, PrintsAnswer, PrintsFault, PrintsLine};
 ghost use Rattle.gc_cli.specs.Serve.{PrintsRefusal, fault_line, reason_of, refusal_line};
 
 use crate::answer::Answer;
@@ -76,7 +76,7 @@ pub(crate) fn serve_arguments<R: Threads + Wait + Sync, F: Reread, O: Write, E: 
     ensures unwritten { result ≡ USAGE
         → (name : List ℕ) → F.bytes files.new name ≡ F.bytes files.old name }
 {
-    let (alloc, before) = (heap.alloc(), files.trail().opened());
+    let (alloc, before) = (heap.alloc(), files.log().opened());
     let context = Context {
         rt,
         alloc,
@@ -91,7 +91,7 @@ pub(crate) fn serve_arguments<R: Threads + Wait + Sync, F: Reread, O: Write, E: 
                     alloc,
                     order: &asked.order,
                     files: &*files,
-                    opened: files.trail().opened().saturating_sub(before),
+                    opened: files.log().opened().saturating_sub(before),
                     printing: console.out.cause(),
                 };
                 report_order(fault, &ended, asked.explains, console)
@@ -173,9 +173,9 @@ fn report_order<F: Reread, O: Write, E: Write>(
     console: &mut Console<O, E>,
 ) -> u8
     ensures status { result ≡ FAULT }
-    ensures printed { (told : Printed) × PrintsFault console.old.err told fault
-        × IsTold (F.bytes ended.now.files.now) (text_of ended.now.order.now)
-        (console.old.explains || explains) fault told console.new.err }
+    ensures printed { (reported : Printed) × PrintsFault console.old.err reported fault
+        × AddsExplanation (F.bytes ended.now.files.now) (text_of ended.now.order.now)
+        (console.old.explains || explains) fault reported console.new.err }
     ensures same { console.new.out ≡ console.old.out }
 {
     let status = report(fault, &mut console.err);
@@ -191,7 +191,7 @@ fn tell<F: Reread, O: Write, E: Write>(
     explains: bool,
     console: &mut Console<O, E>,
 )
-    ensures told { IsTold (F.bytes ended.now.files.now) (text_of ended.now.order.now)
+    ensures explained { AddsExplanation (F.bytes ended.now.files.now) (text_of ended.now.order.now)
         (console.old.explains || explains) fault console.old.err console.new.err }
     ensures same { console.new.out ≡ console.old.out }
 {
@@ -199,12 +199,12 @@ fn tell<F: Reread, O: Write, E: Write>(
         return;
     }
     if let Some(line) = ended.explain(fault) {
-        write_told(&line, &mut console.err);
+        write_explanation(&line, &mut console.err);
     }
 }
 
 /// Writes the line that explains a fault. Where that fails, nothing can be said.
-fn write_told<E: Write>(line: &[u8], err: &mut Output<E>)
+fn write_explanation<E: Write>(line: &[u8], err: &mut Output<E>)
     ensures { PrintsLine err.old err.new line.now }
 {
     let _ = err.write_all(line);

@@ -88,7 +88,7 @@ impl Explained<'_, '_> {
             alloc: memory,
             order,
             files: self.files,
-            opened: self.files.trail().opened(),
+            opened: self.files.log().opened(),
             printing: None,
         };
         match ended.explain(self.fault) {

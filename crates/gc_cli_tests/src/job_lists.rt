@@ -43,7 +43,7 @@ fn opened<R: Threads + Wait + Sync>(
     let words = &["jobs", "c.txt", "list"];
     let trial = Trial { rt, alloc, words };
     let fault = trial.result(alloc, &mut files)?.err();
-    Ok((fault, files.trail().opened()))
+    Ok((fault, files.log().opened()))
 }
 
 /// No file is opened after those of the lines that are read at a time.

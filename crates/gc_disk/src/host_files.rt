@@ -7,11 +7,11 @@ ghost use Rattle.gc_disk.specs.Files.{CountsRead, CountsWrite};
 
 use crate::cause::Cause;
 use crate::file_failures::FileFailures;
+use crate::file_log::FileLog;
 use crate::files::{FileError, Files};
 use crate::noting::Noting;
 use crate::replacement::{Replacement, open_out};
 use crate::reread::Reread;
-use crate::trail::Trail;
 use gc_file::{InSource, OutSink, Sink, SinkFault};
 use std::alloc::Allocator;
 use std::io::{self, ErrorKind, Read, Write};
@@ -42,7 +42,7 @@ impl<W: Write, A: Allocator> Sink for HostSink<W, A> {
 #[derive(Drop)]
 pub struct HostFiles<'r, R: rt::Files + Alloc> {
     rt: &'r R,
-    trail: Trail,
+    log: FileLog,
     failures: FileFailures<HostSink<R::File, R::A>, InSource<Noting<R::File>>>,
 }
 
@@ -53,7 +53,7 @@ impl<'r, R: rt::Files + Alloc> HostFiles<'r, R> {
     {
         HostFiles {
             rt,
-            trail: Trail::new(),
+            log: FileLog::new(),
             failures: FileFailures::new(),
         }
     }
@@ -65,7 +65,7 @@ impl<'r, R: rt::Files + Alloc> HostFiles<'r, R> {
     {
         let fault = cause_of(error);
         if let FileError::CannotRead = fault {
-            self.trail.fail(Cause::of(error.kind()));
+            self.log.fail(Cause::of(error.kind()));
             self.failures.add_one(name);
         }
         Err(fault)
@@ -79,7 +79,7 @@ impl<'r, R: rt::Files + Alloc> HostFiles<'r, R> {
         if error.kind() == ErrorKind::OutOfMemory {
             return Err(FileError::Memory);
         }
-        self.trail.fail(Cause::of(error.kind()));
+        self.log.fail(Cause::of(error.kind()));
         self.failures.add_one(name);
         Err(FileError::CannotWrite)
     }
@@ -99,7 +99,7 @@ impl<'r, R: rt::Files + Alloc> Files for HostFiles<'r, R> {
     }
 
     fn read<A: Allocator + Copy>(&mut self, alloc: A, name: &str) -> Result<Vec<u8, A>, FileError> {
-        self.trail.open(name);
+        self.log.open(name);
         match read_file(self.rt, alloc, name) {
             Ok(bytes) => Ok(bytes),
             Err(error) => self.fail_to_read(name, &error),
@@ -107,7 +107,7 @@ impl<'r, R: rt::Files + Alloc> Files for HostFiles<'r, R> {
     }
 
     fn create(&mut self, name: &str, source: &str) -> Result<HostSink<R::File, R::A>, FileError> {
-        self.trail.open(name);
+        self.log.open(name);
         match create_sink(self.rt, name, source) {
             Ok(sink) => Ok(sink),
             Err(error) => self.fail_to_write(name, &error),
@@ -119,7 +119,7 @@ impl<'r, R: rt::Files + Alloc> Files for HostFiles<'r, R> {
         match keep_sink(self.rt, sink) {
             Ok(()) => Ok(()),
             Err(error) => {
-                self.trail.fail(Cause::of(error.kind()));
+                self.log.fail(Cause::of(error.kind()));
                 self.failures.add_one(name);
                 Err(FileError::CannotWrite)
             }
@@ -130,7 +130,7 @@ impl<'r, R: rt::Files + Alloc> Files for HostFiles<'r, R> {
         self.failures.add_sink(name, &sink);
         let HostSink { sink, replacement } = sink;
         if let Some(cause) = sink.into_inner().cause() {
-            self.trail.fail(cause);
+            self.log.fail(cause);
         }
         if let Some(replacement) = replacement {
             replacement.remove(self.rt);
@@ -138,7 +138,7 @@ impl<'r, R: rt::Files + Alloc> Files for HostFiles<'r, R> {
     }
 
     fn open(&mut self, name: &str) -> Result<InSource<Noting<R::File>>, FileError> {
-        self.trail.open(name);
+        self.log.open(name);
         match fs::open(self.rt, name) {
             Ok(file) => Ok(InSource::new(Noting::new(file))),
             Err(error) => self.fail_to_read(name, &error),
@@ -148,7 +148,7 @@ impl<'r, R: rt::Files + Alloc> Files for HostFiles<'r, R> {
     fn shut(&mut self, name: &str, source: InSource<Noting<R::File>>) {
         self.failures.add_source(name, &source);
         if let Some(cause) = source.into_inner().cause() {
-            self.trail.fail(cause);
+            self.log.fail(cause);
         }
     }
 }
@@ -161,8 +161,8 @@ impl<'r, R: rt::Files + Alloc> Reread for HostFiles<'r, R> {
         read_file(self.rt, alloc, name).ok()
     }
 
-    fn trail(&self) -> &Trail {
-        &self.trail
+    fn log(&self) -> &FileLog {
+        &self.log
     }
 }
 

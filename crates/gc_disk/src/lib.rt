@@ -3,18 +3,18 @@
 
 mod cause;
 mod file_failures;
+mod file_log;
 mod files;
 mod host_files;
 mod noting;
 mod replacement;
 mod reread;
 mod seen_name;
-mod trail;
 
 pub use cause::Cause;
 pub use file_failures::FileFailures;
+pub use file_log::FileLog;
 pub use files::{FileError, Files};
 pub use host_files::{HostFiles, HostSink, read_all};
 pub use noting::Noting;
 pub use reread::Reread;
-pub use trail::Trail;

@@ -3,8 +3,8 @@
 ghost use Rattle.std.specs.Prelude.{◌≡◌, IfSome};
 ghost use Rattle.gc_disk.specs.Files.{GivesFile};
 
+use crate::file_log::FileLog;
 use crate::files::Files;
-use crate::trail::Trail;
 use std::alloc::Allocator;
 
 /// Files of which it is known what was opened last, and that may be read once more.
@@ -15,5 +15,5 @@ pub trait Reread: Files {
         ensures { IfSome result (λ bytes. GivesFile (Self.bytes self.now name.now) bytes.items) };
 
     /// Which file was opened last.
-    fn trail(&self) -> &Trail;
+    fn log(&self) -> &FileLog;
 }

@@ -31,8 +31,8 @@ circuit_of (list_labels circuit seed from count values) = circuit
 circuit_of (audit circuit seed garbled labels) = circuit
 
 -- the line that tells a sentence of a place
-abbrev pub line_told : List ℕ → List ℕ → List ℕ
-line_told place sentence = codes "halfgates: " ++ place ++ sentence ++ 10 ∷ []
+abbrev pub explanation_line : List ℕ → List ℕ → List ℕ
+explanation_line place sentence = codes "halfgates: " ++ place ++ sentence ++ 10 ∷ []
 
 -- The place is where the first fault of a circuit's file is, as `locate` finds it, and the fault is this one. Where the
 -- file can't be read once more, it is the whole file.
@@ -68,5 +68,5 @@ IsPlace bytes order _ place = Unit {0}
 -- The line explains a fault of an order.
 abbrev pub Explains : FileBytes → OrderText → Fault → List ℕ → Type 0
 Explains bytes order fault line =
-    (place : List ℕ) × (sentence : List ℕ) × (line ≡ line_told place sentence)
+    (place : List ℕ) × (sentence : List ℕ) × (line ≡ explanation_line place sentence)
     × IsPlace bytes order fault place

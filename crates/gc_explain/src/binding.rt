@@ -2,7 +2,7 @@
 
 use crate::ended::Ended;
 use crate::listed::JobNames;
-use crate::told::{Told, alone, on_file};
+use crate::sentence::{Explanation, alone, on_file};
 use gc_circuit::Circuit;
 use gc_disk::Reread;
 use gc_file::{Garbled, LabelFile, read_garbled, read_labels};
@@ -12,21 +12,21 @@ use std::alloc::{AllocError, Allocator};
 
 impl<A: Allocator + Copy, F: Reread> Ended<'_, A, F> {
     /// Explains why files are no job for the circuit: those of the job whose file was opened last.
-    pub(crate) fn told_of_binding(&self, fault: BindFault) -> Option<Told<A>> {
+    pub(crate) fn explain_binding(&self, fault: BindFault) -> Option<Explanation<A>> {
         let text = self.read_again(self.circuit())?;
         let circuit = Circuit::read(self.alloc, &text).ok()?;
         let names = match self.order {
             Order::Jobs(jobs) => self.unbound_names(&circuit, jobs, fault)?,
             _ => self.job_names()?,
         };
-        let told = match fault {
+        let explanation = match fault {
             BindFault::OtherCircuit | BindFault::OtherCounts => {
-                self.told_of_garbled(&circuit, &names, fault)?
+                self.explain_garbled(&circuit, &names, fault)?
             }
-            _ => self.told_of_labels(&circuit, &names, fault)?,
+            _ => self.explain_labels(&circuit, &names, fault)?,
         };
-        let Told { place, sentence } = told;
-        Some(Told {
+        let Explanation { place, sentence } = explanation;
+        Some(Explanation {
             place,
             sentence: self.with_line_of(&names, sentence).ok()?,
         })
@@ -66,12 +66,12 @@ impl<A: Allocator + Copy, F: Reread> Ended<'_, A, F> {
     }
 
     /// Explains that a garbled file is of another circuit.
-    fn told_of_garbled(
+    fn explain_garbled(
         &self,
         circuit: &Circuit<A>,
         names: &JobNames<A>,
         fault: BindFault,
-    ) -> Option<Told<A>> {
+    ) -> Option<Explanation<A>> {
         let name = names.garbled.as_str();
         let bytes = self.read_again(name)?;
         let garbled = read_garbled(self.alloc, &bytes).ok()?;
@@ -83,12 +83,12 @@ impl<A: Allocator + Copy, F: Reread> Ended<'_, A, F> {
     }
 
     /// Explains what is wrong with the label files of a job.
-    fn told_of_labels(
+    fn explain_labels(
         &self,
         circuit: &Circuit<A>,
         names: &JobNames<A>,
         fault: BindFault,
-    ) -> Option<Told<A>> {
+    ) -> Option<Explanation<A>> {
         let mut found = Vec::with_capacity(self.alloc, names.labels.len()).ok()?;
         for name in &names.labels {
             let bytes = self.read_again(name.as_str())?;

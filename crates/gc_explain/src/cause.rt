@@ -1,21 +1,21 @@
 //! Files that can't be read or written.
 
 use crate::ended::Ended;
-use crate::told::{Told, alone, on_file};
+use crate::sentence::{Explanation, alone, on_file};
 use gc_disk::{Cause, Reread};
 use std::alloc::Allocator;
 
 impl<A: Allocator + Copy, F: Reread> Ended<'_, A, F> {
     /// Explains why a file can't be read: the one that was opened last.
-    pub(crate) fn told_of_reading(&self) -> Option<Told<A>> {
-        let trail = self.files.trail();
-        let why = reason_of(trail.cause());
+    pub(crate) fn explain_reading(&self) -> Option<Explanation<A>> {
+        let log = self.files.log();
+        let why = reason_of(log.cause());
         let sentence = format!(in self.alloc; "the file can't be read: {why}").ok()?;
-        on_file(self.alloc, trail.name(), self.with_line(sentence))
+        on_file(self.alloc, log.name(), self.with_line(sentence))
     }
 
     /// Explains why a file can't be written: the one that was opened last, or standard output where printing failed.
-    pub(crate) fn told_of_writing(&self) -> Option<Told<A>> {
+    pub(crate) fn explain_writing(&self) -> Option<Explanation<A>> {
         if self.printing.is_some() {
             let why = reason_of(self.printing);
             return alone(
@@ -23,14 +23,14 @@ impl<A: Allocator + Copy, F: Reread> Ended<'_, A, F> {
                 format!(in self.alloc; "standard output can't be written: {why}"),
             );
         }
-        let trail = self.files.trail();
-        let why = match trail.cause() {
+        let log = self.files.log();
+        let why = match log.cause() {
             Some(Cause::NotWritten) => "it is a name of standard output or of the circuit's file",
             cause => reason_of(cause),
         };
         on_file(
             self.alloc,
-            trail.name(),
+            log.name(),
             format!(in self.alloc; "the file can't be written: {why}"),
         )
     }

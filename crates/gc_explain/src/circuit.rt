@@ -5,7 +5,7 @@ ghost use Rattle.gc_order.specs.Order.{text_of};
 ghost use Rattle.gc_explain.specs.Explain.{circuit_of, IsCircuitPlace};
 
 use crate::ended::Ended;
-use crate::told::{Told, located_place, on_file};
+use crate::sentence::{Explanation, located_place, on_file};
 use gc_circuit::{Circuit, ReadFault};
 use gc_disk::Reread;
 use gc_hint::{meaning_of, sentence_of};
@@ -14,17 +14,17 @@ use std::alloc::Allocator;
 impl<A: Allocator + Copy, F: Reread> Ended<'_, A, F> {
     /// Explains a fault of the circuit. Where its file can't be reread, or has another fault now, the place is the
     /// whole file.
-    pub(crate) fn told_of_circuit(&self, fault: ReadFault) -> Option<Told<A>>
-        ensures { IfSome result (λ told.
+    pub(crate) fn explain_circuit(&self, fault: ReadFault) -> Option<Explanation<A>>
+        ensures { IfSome result (λ explanation.
             IsCircuitPlace (F.bytes self.now.files.now (circuit_of (text_of self.now.order.now)))
-            (circuit_of (text_of self.now.order.now)) fault told.place.items) }
+            (circuit_of (text_of self.now.order.now)) fault it.place.items) }
     {
         let name = self.circuit();
         if let Some(text) = self.read_again(name) {
             if let Ok(Some(located)) = Circuit::locate(self.alloc, &text) {
                 if located.fault == fault {
                     let sentence = sentence_of(&text, &located);
-                    return Some(Told {
+                    return Some(Explanation {
                         place: located_place(self.alloc, name, &located).ok()?,
                         sentence: String::from_str(self.alloc, sentence.as_str()).ok()?,
                     });

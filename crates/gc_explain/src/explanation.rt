@@ -5,7 +5,7 @@ ghost use Rattle.gc_order.specs.Order.{text_of};
 ghost use Rattle.gc_explain.specs.Explain.{Explains, IsPlace};
 
 use crate::ended::Ended;
-use crate::told::{Told, alone, on_file};
+use crate::sentence::{Explanation, alone, on_file};
 use gc_circuit::{ReadFault, ValueFault};
 use gc_command::Fault;
 use gc_disk::Reread;
@@ -24,56 +24,56 @@ impl<A: Allocator + Copy, F: Reread> Ended<'_, A, F> {
         ensures { IfSome result (λ line.
             Explains (F.bytes self.now.files.now) (text_of self.now.order.now) fault line.items) }
     {
-        let told = self.told_of(fault)?;
-        told.line(self.alloc).ok()
+        let explanation = self.explanation_of(fault)?;
+        explanation.line(self.alloc).ok()
     }
 
     /// Explains the fault.
-    fn told_of(&self, fault: Fault) -> Option<Told<A>>
-        ensures { IfSome result (λ told. IsPlace (F.bytes self.now.files.now)
-            (text_of self.now.order.now) fault told.place.items) }
+    fn explanation_of(&self, fault: Fault) -> Option<Explanation<A>>
+        ensures { IfSome result (λ it. IsPlace (F.bytes self.now.files.now)
+            (text_of self.now.order.now) fault it.place.items) }
     {
         match fault {
-            Fault::Circuit(ReadFault::Memory) => self.told_of_memory(),
-            Fault::Circuit(fault) => self.told_of_circuit(fault),
-            Fault::File(FileFault::Memory) => self.told_of_memory(),
-            Fault::File(fault) => self.told_of_file(fault),
+            Fault::Circuit(ReadFault::Memory) => self.explain_memory(),
+            Fault::Circuit(fault) => self.explain_circuit(fault),
+            Fault::File(FileFault::Memory) => self.explain_memory(),
+            Fault::File(fault) => self.explain_file(fault),
             Fault::Evaluation(EvalFault::UnknownOutputLabel { output }) => {
-                self.told_of_output(output)
+                self.explain_output(output)
             }
-            other => self.told_of_other(other),
+            other => self.explain_other(other),
         }
     }
 
     /// Explains a fault that is neither in a circuit's text nor in the form of a file.
-    fn told_of_other(&self, fault: Fault) -> Option<Told<A>> {
+    fn explain_other(&self, fault: Fault) -> Option<Explanation<A>> {
         match fault {
-            Fault::WrongCount => self.told_of_count(),
-            Fault::Value(ValueFault::Memory) => self.told_of_memory(),
-            Fault::Value(fault) => self.told_of_value(fault),
-            Fault::BadSeed => self.told_of_seed(),
-            Fault::NoSuchValue => self.told_of_index(),
+            Fault::WrongCount => self.explain_count(),
+            Fault::Value(ValueFault::Memory) => self.explain_memory(),
+            Fault::Value(fault) => self.explain_value(fault),
+            Fault::BadSeed => self.explain_seed(),
+            Fault::NoSuchValue => self.explain_index(),
             Fault::Garbling(WorkFault::BadWorkers) | Fault::Evaluation(EvalFault::BadWorkers) => {
-                self.told_of_workers()
+                self.explain_workers()
             }
-            Fault::Binding(BindFault::Memory) => self.told_of_memory(),
-            Fault::Binding(fault) => self.told_of_binding(fault),
-            Fault::BadList => self.told_of_list(),
-            Fault::CannotRead => self.told_of_reading(),
-            Fault::CannotWrite => self.told_of_writing(),
-            _ => self.told_of_memory(),
+            Fault::Binding(BindFault::Memory) => self.explain_memory(),
+            Fault::Binding(fault) => self.explain_binding(fault),
+            Fault::BadList => self.explain_list(),
+            Fault::CannotRead => self.explain_reading(),
+            Fault::CannotWrite => self.explain_writing(),
+            _ => self.explain_memory(),
         }
     }
 
     /// Explains that memory ran out.
-    fn told_of_memory(&self) -> Option<Told<A>>
-        ensures { IfSome result (λ told. told.place.items ≡ []) }
+    fn explain_memory(&self) -> Option<Explanation<A>>
+        ensures { IfSome result (λ it. it.place.items ≡ []) }
     {
         alone(self.alloc, String::from_str(self.alloc, "memory ran out"))
     }
 
     /// Explains why a text is no list of jobs.
-    fn told_of_list(&self) -> Option<Told<A>> {
+    fn explain_list(&self) -> Option<Explanation<A>> {
         let Order::Jobs(jobs) = self.order else {
             return None;
         };

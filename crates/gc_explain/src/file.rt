@@ -6,7 +6,7 @@ ghost use Rattle.gc_explain.specs.Explain.{HasFileFault, IsFilePlace};
 
 use crate::ended::Ended;
 use crate::listed::JobNames;
-use crate::told::{Told, byte_place, file_place};
+use crate::sentence::{Explanation, byte_place, file_place};
 use gc_disk::Reread;
 use gc_file::{FileFault, number_at, read_garbled, read_labels};
 use gc_netlist::MAX_GATES;
@@ -23,94 +23,94 @@ struct NamedFile<'a> {
 impl<A: Allocator + Copy, F: Reread> Ended<'_, A, F> {
     /// Explains a fault of a file: of the one that was opened last or, where a list names the files, of the first file
     /// of the last jobs that has it.
-    pub(crate) fn told_of_file(&self, fault: FileFault) -> Option<Told<A>>
+    pub(crate) fn explain_file(&self, fault: FileFault) -> Option<Explanation<A>>
         requires { fault ≢ FileFault.Memory }
         ensures { IfSome result
-            (λ told. IsFilePlace (F.bytes self.now.files.now) fault told.place.items) }
+            (λ it. IsFilePlace (F.bytes self.now.files.now) fault it.place.items) }
     {
         match self.order {
-            Order::Jobs(jobs) => self.told_of_listed_file(jobs, fault),
-            _ => self.told_of_last_file(fault),
+            Order::Jobs(jobs) => self.explain_listed_file(jobs, fault),
+            _ => self.explain_last_file(fault),
         }
     }
 
     /// Explains a fault of the file that was opened last. Where it can't be reread, or has another fault now, the place
     /// is the whole file.
-    fn told_of_last_file(&self, fault: FileFault) -> Option<Told<A>>
+    fn explain_last_file(&self, fault: FileFault) -> Option<Explanation<A>>
         requires { fault ≢ FileFault.Memory }
         ensures { IfSome result
-            (λ told. IsFilePlace (F.bytes self.now.files.now) fault told.place.items) }
+            (λ it. IsFilePlace (F.bytes self.now.files.now) fault it.place.items) }
     {
         let file = NamedFile {
-            name: self.files.trail().name(),
+            name: self.files.log().name(),
             is_garbled: self.opened <= 2,
         };
         let place = match self.byte_of_fault(&file, fault) {
             Some(byte) => byte_place(self.alloc, file.name, byte).ok()?,
             None => file_place(self.alloc, file.name).ok()?,
         };
-        Some(Told {
+        Some(Explanation {
             place,
             sentence: String::from_str(self.alloc, meaning_of(file.is_garbled, fault)).ok()?,
         })
     }
 
     /// Explains a fault of a file that a list names, if one of the last jobs' files has it now.
-    fn told_of_listed_file(&self, jobs: &JobsOrder, fault: FileFault) -> Option<Told<A>>
+    fn explain_listed_file(&self, jobs: &JobsOrder, fault: FileFault) -> Option<Explanation<A>>
         requires { fault ≢ FileFault.Memory }
         ensures { IfSome result
-            (λ told. IsFilePlace (F.bytes self.now.files.now) fault told.place.items) }
+            (λ it. IsFilePlace (F.bytes self.now.files.now) fault it.place.items) }
     {
         for names in &self.last_jobs(jobs)? {
-            let told = self.told_of_job_file(names, fault);
-            if told.is_some() {
-                return told;
+            let explanation = self.explain_job_file(names, fault);
+            if explanation.is_some() {
+                return explanation;
             }
         }
         None
     }
 
     /// Explains the fault of the first file of a job that has it.
-    fn told_of_job_file(&self, names: &JobNames<A>, fault: FileFault) -> Option<Told<A>>
+    fn explain_job_file(&self, names: &JobNames<A>, fault: FileFault) -> Option<Explanation<A>>
         requires { fault ≢ FileFault.Memory }
         ensures { IfSome result
-            (λ told. IsFilePlace (F.bytes self.now.files.now) fault told.place.items) }
+            (λ it. IsFilePlace (F.bytes self.now.files.now) fault it.place.items) }
     {
         let garbled = NamedFile {
             name: names.garbled.as_str(),
             is_garbled: true,
         };
-        let told = self.told_of_named(&garbled, names, fault);
-        if told.is_some() {
-            return told;
+        let explanation = self.explain_named(&garbled, names, fault);
+        if explanation.is_some() {
+            return explanation;
         }
         for label in &names.labels {
             let labels = NamedFile {
                 name: label.as_str(),
                 is_garbled: false,
             };
-            let told = self.told_of_named(&labels, names, fault);
-            if told.is_some() {
-                return told;
+            let explanation = self.explain_named(&labels, names, fault);
+            if explanation.is_some() {
+                return explanation;
             }
         }
         None
     }
 
     /// Explains the fault of a file of a job, if it has it.
-    fn told_of_named(
+    fn explain_named(
         &self,
         file: &NamedFile<'_>,
         names: &JobNames<A>,
         fault: FileFault,
-    ) -> Option<Told<A>>
+    ) -> Option<Explanation<A>>
         requires { fault ≢ FileFault.Memory }
         ensures { IfSome result
-            (λ told. IsFilePlace (F.bytes self.now.files.now) fault told.place.items) }
+            (λ it. IsFilePlace (F.bytes self.now.files.now) fault it.place.items) }
     {
         let byte = self.byte_of_fault(file, fault)?;
         let meaning = String::from_str(self.alloc, meaning_of(file.is_garbled, fault)).ok()?;
-        Some(Told {
+        Some(Explanation {
             place: byte_place(self.alloc, file.name, byte).ok()?,
             sentence: self.with_line_of(names, meaning).ok()?,
         })

@@ -9,7 +9,7 @@ mod explanation;
 mod file;
 mod listed;
 mod output;
-mod told;
+mod sentence;
 mod value;
 
 pub use ended::Ended;

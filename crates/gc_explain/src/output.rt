@@ -13,7 +13,7 @@ ghost use Rattle.gc_command.specs.Eval.{AreLabelFiles};
 ghost use Rattle.gc_explain.specs.Output.{HasEvaluationFault, HasUnknownOutput, IsJobPlace, IsOutputPlace, IsUnknownLine};
 
 use crate::ended::Ended;
-use crate::told::{Told, file_place, line_place, on_file};
+use crate::sentence::{Explanation, file_place, line_place, on_file};
 use gc_circuit::Circuit;
 use gc_command::words_of_line;
 use gc_disk::Reread;
@@ -25,32 +25,32 @@ use std::str;
 
 impl<A: Allocator + Copy, F: Reread> Ended<'_, A, F> {
     /// Explains an output label that the garbled file doesn't recognise.
-    pub(crate) fn told_of_output(&self, output: u32) -> Option<Told<A>>
-        ensures { IfSome result (λ told. IsOutputPlace (F.bytes self.now.files.now)
-            (text_of self.now.order.now) output told.place.items) }
+    pub(crate) fn explain_output(&self, output: u32) -> Option<Explanation<A>>
+        ensures { IfSome result (λ it. IsOutputPlace (F.bytes self.now.files.now)
+            (text_of self.now.order.now) output it.place.items) }
     {
         match self.order {
             Order::Eval(eval) => {
                 let sentence = sentence_of(self.alloc, output);
                 on_file(self.alloc, eval.garbled.as_str(), sentence)
             }
-            Order::Jobs(jobs) => self.told_of_job(jobs, output),
+            Order::Jobs(jobs) => self.explain_job(jobs, output),
             _ => None,
         }
     }
 
     /// Explains an unknown output label of a job in a list. The place is the first line that has such a job.
-    fn told_of_job(&self, jobs: &JobsOrder, output: u32) -> Option<Told<A>>
-        ensures { IfSome result (λ told. IsJobPlace (F.bytes self.now.files.now)
+    fn explain_job(&self, jobs: &JobsOrder, output: u32) -> Option<Explanation<A>>
+        ensures { IfSome result (λ it. IsJobPlace (F.bytes self.now.files.now)
             (string_bytes jobs.now.circuit) (string_bytes jobs.now.list) output
-            told.place.items) }
+            it.place.items) }
     {
         let list = jobs.list.as_str();
         let place = match self.line_of_output(jobs, output) {
             Some(line) => line_place(self.alloc, list, line).ok()?,
             None => file_place(self.alloc, list).ok()?,
         };
-        Some(Told {
+        Some(Explanation {
             place,
             sentence: sentence_of(self.alloc, output).ok()?,
         })

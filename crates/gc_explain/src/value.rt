@@ -1,7 +1,7 @@
 //! Faults of values, seeds and numbers on the command line.
 
 use crate::ended::Ended;
-use crate::told::{Told, alone};
+use crate::sentence::{Explanation, alone};
 use gc_circuit::{ValueFault, read_value};
 use gc_disk::Reread;
 use gc_order::Order;
@@ -63,7 +63,7 @@ impl GivenValue<'_> {
 
 impl<A: Allocator + Copy, F: Reread> Ended<'_, A, F> {
     /// Explains a wrong number of values.
-    pub(crate) fn told_of_count(&self) -> Option<Told<A>> {
+    pub(crate) fn explain_count(&self) -> Option<Explanation<A>> {
         let given = values_of(self.order)?.len();
         let due = self.input_widths()?.len();
         alone(
@@ -75,7 +75,7 @@ impl<A: Allocator + Copy, F: Reread> Ended<'_, A, F> {
     }
 
     /// Explains an index that no input value has.
-    pub(crate) fn told_of_index(&self) -> Option<Told<A>> {
+    pub(crate) fn explain_index(&self) -> Option<Explanation<A>> {
         let Order::Deal(deal) = self.order else {
             return None;
         };
@@ -90,7 +90,7 @@ impl<A: Allocator + Copy, F: Reread> Ended<'_, A, F> {
     }
 
     /// Explains this fault by the first value that has it.
-    pub(crate) fn told_of_value(&self, fault: ValueFault) -> Option<Told<A>> {
+    pub(crate) fn explain_value(&self, fault: ValueFault) -> Option<Explanation<A>> {
         let widths = self.input_widths()?;
         if let Order::Deal(deal) = self.order {
             let value = GivenValue {
@@ -113,7 +113,7 @@ impl<A: Allocator + Copy, F: Reread> Ended<'_, A, F> {
     }
 
     /// Explains why a text is no seed.
-    pub(crate) fn told_of_seed(&self) -> Option<Told<A>> {
+    pub(crate) fn explain_seed(&self) -> Option<Explanation<A>> {
         let count = seed_of(self.order)?.len();
         if count == 64 {
             let sentence = "a character of the seed is no hexadecimal digit";
@@ -128,7 +128,7 @@ impl<A: Allocator + Copy, F: Reread> Ended<'_, A, F> {
     }
 
     /// Explains a number of workers that is out of range.
-    pub(crate) fn told_of_workers(&self) -> Option<Told<A>> {
+    pub(crate) fn explain_workers(&self) -> Option<Explanation<A>> {
         let workers = workers_of(self.order)?;
         alone(
             self.alloc,

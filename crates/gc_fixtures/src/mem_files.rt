@@ -4,7 +4,7 @@ ghost use Rattle.std.specs.Prelude.{◌≡◌, ℕ, List, [], Option, Some, None
 ghost use Rattle.gc_disk.specs.Files.{CountsRead};
 ghost use Rattle.gc_fixtures.specs.MemFiles.{bytes_at, bytes_of, written_or};
 
-use gc_disk::{Cause, FileError, FileFailures, Files, Reread, Trail};
+use gc_disk::{Cause, FileError, FileFailures, FileLog, Files, Reread};
 use gc_file::{MemSink, MemSource};
 use std::alloc::{Allocator, Global};
 use std::marker::Model;
@@ -39,7 +39,7 @@ pub struct MemFiles<'a, B: Allocator = Global> {
     // How many sinks were created, and neither kept nor discarded.
     open_sinks: u32,
     limits: Limits,
-    trail: Trail,
+    log: FileLog,
     failures: FileFailures<MemSink<B>, MemSource<'a>>,
 }
 
@@ -77,7 +77,7 @@ impl<'a, B: Allocator> MemFiles<'a, B> {
             written: None,
             open_sinks: 0,
             limits,
-            trail: Trail::new(),
+            log: FileLog::new(),
             failures: FileFailures::new(),
         }
     }
@@ -124,13 +124,13 @@ impl<'a, B: Allocator> MemFiles<'a, B> {
         ensures written { self.new.written ≡ self.old.written }
         ensures counted { CountsRead result name.now self.old.failures self.new.failures }
     {
-        self.trail.open(name);
+        self.log.open(name);
         if self.goes_well() && !self.has_written(name) {
             if let Some(bytes) = held_at(self.files, name) {
                 return Ok(bytes);
             }
         }
-        self.trail.fail(Cause::NotFound);
+        self.log.fail(Cause::NotFound);
         self.failures.add_one(name);
         Err(FileError::CannotRead)
     }
@@ -167,12 +167,12 @@ impl<'a, B: Allocator + Copy> Files for MemFiles<'a, B> {
     }
 
     fn create(&mut self, name: &str, source: &str) -> Result<MemSink<B>, FileError> {
-        self.trail.open(name);
+        self.log.open(name);
         if self.goes_well() && name != source {
             self.open_sinks = self.open_sinks.saturating_add(1);
             return Ok(MemSink::new(self.alloc, self.limits.taken));
         }
-        self.trail.fail(Cause::NotWritten);
+        self.log.fail(Cause::NotWritten);
         self.failures.add_one(name);
         Err(FileError::CannotWrite)
     }
@@ -186,7 +186,7 @@ impl<'a, B: Allocator + Copy> Files for MemFiles<'a, B> {
                 return Ok(());
             }
         }
-        self.trail.fail(Cause::FullDisk);
+        self.log.fail(Cause::FullDisk);
         self.failures.add_one(name);
         Err(FileError::CannotWrite)
     }
@@ -215,7 +215,7 @@ impl<'a, B: Allocator + Copy> Reread for MemFiles<'a, B> {
         Vec::from_slice(alloc, bytes).ok()
     }
 
-    fn trail(&self) -> &Trail {
-        &self.trail
+    fn log(&self) -> &FileLog {
+        &self.log
     }
 }

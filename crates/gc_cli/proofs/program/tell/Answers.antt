@@ -1,12 +1,12 @@
 use Rattle.std.proofs.Common.{rules, inr}
 use Rattle.gc_cli.proofs.program.tell.Goals as goal
 
-pub returns-in-Some-clause-told : goal.returns-in-Some-clause-told
-returns-in-Some-clause-told g c = inr (
+pub returns-in-Some-clause-explained : goal.returns-in-Some-clause-explained
+returns-in-Some-clause-explained g c = inr (
   search rules,
   (
     c.in-Some.line.items,
     c.in-Some.ensures,
-    rw c.deref.ensures.value at c.write_told.ensures,
+    rw c.deref.ensures.value at c.write_explanation.ensures,
   ),
 )

@@ -1,7 +1,7 @@
 //! The explanation of a fault.
 
 ghost use Rattle.std.specs.Prelude.{◌≡◌, ◌++◌, ◌∷◌, [], codes, decimal, string_bytes, IfOk, IfSome, OnOk};
-ghost use Rattle.gc_explain.specs.Explain.{line_told};
+ghost use Rattle.gc_explain.specs.Explain.{explanation_line};
 ghost use Rattle.gc_explain.specs.Places.{byte_place, file_place, line_place, located_place};
 
 use gc_circuit::Located;
@@ -10,16 +10,16 @@ use std::alloc::{AllocError, Allocator};
 
 /// The explanation of a fault: the place that it names, which may be empty, and a sentence.
 #[derive(Drop)]
-pub(crate) struct Told<A: Allocator> {
+pub(crate) struct Explanation<A: Allocator> {
     pub(crate) place: Vec<u8, A>,
     pub(crate) sentence: String<A>,
 }
 
-impl<A: Allocator> Told<A> {
+impl<A: Allocator> Explanation<A> {
     /// The explanation as one line.
     pub(crate) fn line(self, alloc: A) -> Result<Vec<u8, A>, AllocError>
         ensures { IfOk result
-            (λ line. line.items ≡ line_told self.place.items (string_bytes self.sentence)) }
+            (λ line. line.items ≡ explanation_line self.place.items (string_bytes self.sentence)) }
     {
         let mut line = Vec::from_slice(alloc, b"halfgates: ".as_slice())?;
         line.extend_from_slice(&self.place)?;
@@ -33,10 +33,10 @@ impl<A: Allocator> Told<A> {
 pub(crate) fn alone<A: Allocator>(
     alloc: A,
     sentence: Result<String<A>, AllocError>,
-) -> Option<Told<A>>
-    ensures { IfSome result (λ told. told.place.items ≡ []) }
+) -> Option<Explanation<A>>
+    ensures { IfSome result (λ it. it.place.items ≡ []) }
 {
-    Some(Told {
+    Some(Explanation {
         place: Vec::new(alloc),
         sentence: sentence.ok()?,
     })
@@ -47,10 +47,10 @@ pub(crate) fn on_file<A: Allocator>(
     alloc: A,
     name: &str,
     sentence: Result<String<A>, AllocError>,
-) -> Option<Told<A>>
-    ensures { IfSome result (λ told. told.place.items ≡ file_place name.now) }
+) -> Option<Explanation<A>>
+    ensures { IfSome result (λ it. it.place.items ≡ file_place name.now) }
 {
-    Some(Told {
+    Some(Explanation {
         place: file_place(alloc, name).ok()?,
         sentence: sentence.ok()?,
     })

@@ -1,6 +1,6 @@
 use Rattle.std.proofs.Common.{rules, inr}
 use Rattle.gc_explain.proofs.ExplainLemmas.{of-read}
-use Rattle.gc_explain.proofs.ended.Ended.told_of_circuit.Goals as goal
+use Rattle.gc_explain.proofs.ended.Ended.explain_circuit.Goals as goal
 
 pub returns-then-eq : goal.returns-then-eq
 returns-then-eq g c =

@@ -11,18 +11,18 @@ const LONGEST: usize = 4_096;
 /// The name of the file that was opened last, how many were opened, and why the last call that failed did. It doesn't
 /// allocate.
 #[derive(Drop)]
-pub struct Trail {
+pub struct FileLog {
     name: ArrayString<LONGEST>,
     opened: u64,
     cause: Option<Cause>,
 }
 
-impl Trail {
+impl FileLog {
     /// No file was opened yet.
-    pub fn new() -> Trail
+    pub fn new() -> FileLog
         ensures { result.cause ≡ None }
     {
-        Trail {
+        FileLog {
             name: ArrayString::new(),
             opened: 0,
             cause: None,
