@@ -68,7 +68,8 @@ impl<A: Allocator + Copy> Garbler<'_, A> {
         bits: &[bool],
         files: &mut F,
     ) -> Result<Vec<u8, A>, Fault>
-        requires { slice_get self.now.circuit.now.input_widths order.now.index ≡ Some (length bits.now) }
+        requires { slice_get self.now.circuit.now.input_widths order.now.index
+            ≡ Some (length bits.now) }
         ensures written { IfOk result (λ lines. (n : List ℕ) → IfSome (F.bytes files.old n)
             (λ _. HasWritten
             (label_file (label_parts_of self.now.circuit.now self.now.seed.now order.now.index

@@ -75,8 +75,8 @@ pub fn read_line<A: Allocator + Copy, F: Files>(alloc: A, line: &str, files: &mu
 }
 
 impl<'c, A: Allocator + Copy> Binder<'c, A> {
-    /// The job that the files of a line make. The caller ensures that the digest is the circuit's, and `trailer` that of
-    /// the garbled file's bytes before its trailer. The bytes are dropped.
+    /// The job that the files of a line make. The caller ensures that the digest is the circuit's, and `trailer` that
+    /// of the garbled file's bytes before its trailer. The bytes are dropped.
     pub fn job_of_files(
         &self,
         files: LineFiles<A>,
@@ -108,7 +108,8 @@ impl<'c, A: Allocator + Copy> Binder<'c, A> {
         ensures named { IfOk result
             (NameJob (F.bytes files.old) self.now.circuit.now (tokens line.now)) }
         ensures fault { IfErr result (HasNamedFault (F.bytes files.old)
-            (HasFailed (F.failures files.old) (F.failures files.new)) self.now.circuit.now (tokens line.now)) }
+            (HasFailed (F.failures files.old) (F.failures files.new))
+            self.now.circuit.now (tokens line.now)) }
         ensures counted { OnOk result (F.failures files.new ≡ F.failures files.old) }
         ensures same { (n : List ℕ) → F.bytes files.new n ≡ F.bytes files.old n }
     {

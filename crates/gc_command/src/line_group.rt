@@ -68,9 +68,10 @@ impl<'c, A: Allocator + Copy> Binder<'c, A> {
         self.read_ahead(lines, files, steps)
     }
 
-    /// The jobs that at most eight lines name, as [`read_group`](Self::read_group) returns them. The files of the lines are read in turn, up
-    /// to the first fault of one that can't be read, or of a label file. Then their garbled files are digested side by
-    /// side, and checked and bound in turn: so the fault is that of the first line that names no job.
+    /// The jobs that at most eight lines name, as [`read_group`](Self::read_group) returns them. The files of the lines
+    /// are read in turn, up to the first fault of one that can't be read, or of a label file. Then their garbled files
+    /// are digested side by side, and checked and bound in turn: so the fault is that of the first line that names no
+    /// job.
     fn read_ahead<F: Files, P: Progress>(
         &self,
         lines: &[&str],
@@ -93,8 +94,8 @@ impl<'c, A: Allocator + Copy> Binder<'c, A> {
         self.jobs_of_files(read, &trailers)
     }
 
-    /// The jobs that the files of at most eight lines make. The caller ensures that the digest is the circuit's, and that
-    /// `trailers` begin with those that are due. The bytes of each garbled file are dropped once it is read.
+    /// The jobs that the files of at most eight lines make. The caller ensures that the digest is the circuit's, and
+    /// that `trailers` begin with those that are due. The bytes of each garbled file are dropped once it is read.
     fn jobs_of_files(
         &self,
         read: Vec<LineFiles<A>, A>,

@@ -23,8 +23,8 @@ use gc_lanes::SIDE_BY_SIDE;
 use std::alloc::Allocator;
 
 impl<'c, A: Allocator + Copy> Binder<'c, A> {
-    /// The jobs of the list in the file of this name. The list's bytes are dropped. The caller ensures that the digest is
-    /// the circuit's.
+    /// The jobs of the list in the file of this name. The list's bytes are dropped. The caller ensures that the digest
+    /// is the circuit's.
     pub fn read_listed_jobs<F: Files, P: Progress>(
         &self,
         list: &str,
@@ -35,7 +35,8 @@ impl<'c, A: Allocator + Copy> Binder<'c, A> {
         ensures listed { IfOk result
             (λ jobs. AreListed (F.bytes files.old) list.now self.now.circuit.now jobs.items) }
         ensures fault { IfErr result (HasListFault (F.bytes files.old)
-            (HasFailed (F.failures files.old) (F.failures files.new)) list.now self.now.circuit.now) }
+            (HasFailed (F.failures files.old) (F.failures files.new))
+            list.now self.now.circuit.now) }
         ensures counted { OnOk result (F.failures files.new ≡ F.failures files.old) }
         ensures same { (n : List ℕ) → F.bytes files.new n ≡ F.bytes files.old n }
     {
@@ -44,8 +45,8 @@ impl<'c, A: Allocator + Copy> Binder<'c, A> {
         self.read_jobs(&lines, files, progress)
     }
 
-    /// The jobs that lines name, some lines at a time. The caller ensures that the digest is the circuit's, and that each
-    /// line has a token.
+    /// The jobs that lines name, some lines at a time. The caller ensures that the digest is the circuit's, and that
+    /// each line has a token.
     fn read_jobs<F: Files, P: Progress>(
         &self,
         lines: &[&str],

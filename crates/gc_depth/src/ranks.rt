@@ -48,7 +48,8 @@ pub(crate) fn ranks_of<A: Allocator + Copy, C: Allocator>(
     alloc: A,
     circuit: &Circuit<C>,
 ) -> Result<Ranks<A>, Memory>
-    ensures ranks { IfOk result (λ r. r.of_gates.items ≡ map (rank_in circuit.now) circuit.now.gates) }
+    ensures ranks { IfOk result
+        (λ r. r.of_gates.items ≡ map (rank_in circuit.now) circuit.now.gates) }
     ensures below { IfOk result (λ r. All (λ k. k < r.end) r.of_gates.items) }
     ensures few { IfOk result (λ r. r.end < 2 ^ 32) }
 {
