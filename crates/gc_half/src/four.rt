@@ -190,13 +190,9 @@ impl<'r, A: Allocator> Lane<'r, A> {
         ensures { IsStep (numbered_from first hash) k gate
             self.old.rows.now self.old.labels.items self.new.rows.now self.new.labels.items }
     {
+        // What a gate reads second is zero where it reads no second wire.
         let (a, b) = labels_read(&self.labels, gate.operation);
-        let label = match gate.operation {
-            Operation::Xor(_, _) => a.xor(b),
-            Operation::Eq(_) | Operation::And(_, _) => Label::ZERO,
-            Operation::Inv(_) | Operation::Eqw(_) => a,
-        };
-        self.labels[gate.set as usize] = label;
+        self.labels[gate.set as usize] = a.xor(b);
     }
 
     /// The labels of all wires.

@@ -42,16 +42,19 @@ pub fn garble_gate(
     ensures rows { result.1 ≡ gate_rows hash offset k operation read.0 read.1 }
 {
     let (first, second) = read;
-    match operation {
-        Operation::Xor(_, _) => (first.xor(second), None),
+    // Always a sum, so that the compiler stores the label at once: a label that is stored in two words delays the gate
+    // that reads it next.
+    let (one, other) = match operation {
+        Operation::Xor(_, _) => (first, second),
         Operation::And(_, _) => {
             let garbled = garble_and(k, offset, first, second);
-            (garbled.zero_label, Some(garbled.rows))
+            return (garbled.zero_label, Some(garbled.rows));
         }
-        Operation::Inv(_) => (first.xor(offset.label()), None),
-        Operation::Eq(constant) => (offset.label().times(constant), None),
-        Operation::Eqw(_) => (first, None),
-    }
+        Operation::Inv(_) => (first, offset.label()),
+        Operation::Eq(constant) => (Label::ZERO, offset.label().times(constant)),
+        Operation::Eqw(_) => (first, Label::ZERO),
+    };
+    (one.xor(other), None)
 }
 
 /// Evaluates one gate from the active labels of the wires that it reads first and second: the active label of the wire
@@ -63,14 +66,16 @@ pub fn evaluate_gate(k: u32, rows: &[RowPair], operation: Operation, read: (Labe
     ensures { result ≡ gate_active hash k (row_at rows.now k) operation read.0 read.1 }
 {
     let (first, second) = read;
-    match operation {
-        Operation::Xor(_, _) => first.xor(second),
+    // Always a sum, as in `garble_gate`.
+    let (one, other) = match operation {
+        Operation::Xor(_, _) => (first, second),
         Operation::And(_, _) => {
             let row = rows[k as usize];
-            eval_and(k, row.generator, row.evaluator, first, second)
+            return eval_and(k, row.generator, row.evaluator, first, second);
         }
-        Operation::Inv(_) => first,
-        Operation::Eq(_) => Label::ZERO,
-        Operation::Eqw(_) => first,
-    }
+        Operation::Inv(_) => (first, Label::ZERO),
+        Operation::Eq(_) => (Label::ZERO, Label::ZERO),
+        Operation::Eqw(_) => (first, Label::ZERO),
+    };
+    one.xor(other)
 }
