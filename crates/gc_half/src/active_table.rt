@@ -75,17 +75,17 @@ impl<A: Allocator> ActiveTable<A> {
             → NoneSets w self.new.waiting }
     {
         self.make_read(gate.operation);
-        let (first, second) = self.read(gate.operation);
+        let read = self.read(gate.operation);
         if gate.operation.is_and() {
             let step = AndStep {
                 k,
                 rows: rows[k as usize],
-                a: first,
-                b: second,
+                a: read.0,
+                b: read.1,
             };
             self.join(step, gate.set);
         } else {
-            let label = evaluate_gate(k, rows, gate.operation, first, second);
+            let label = evaluate_gate(k, rows, gate.operation, read);
             self.put(gate.set, label);
         }
     }
@@ -170,7 +170,7 @@ impl<A: Allocator> ActiveTable<A> {
         self.labels[wire as usize] = label;
     }
 
-    /// Evaluates the gates that wait: two at once, and one alone.
+    /// Evaluates the gates that wait: all at once. Three take as long as four.
     #[inline(never)]
     fn make_waiting(&mut self)
         ensures numbered { self.new.first ≡ self.old.first }
@@ -190,11 +190,18 @@ impl<A: Allocator> ActiveTable<A> {
             self.labels[a.set as usize] = eval_and_from(self.first, a.gate);
             return;
         };
-        let (first, second) = eval_two_ands_from(self.first, a.gate, b.gate);
+        let Some(c) = third else {
+            let (first, second) = eval_two_ands_from(self.first, a.gate, b.gate);
+            self.labels[a.set as usize] = first;
+            self.labels[b.set as usize] = second;
+            return;
+        };
+        let [first, second, third, _] = eval_four_ands_from(
+            self.first,
+            [a.gate, b.gate, c.gate, c.gate],
+        );
         self.labels[a.set as usize] = first;
         self.labels[b.set as usize] = second;
-        if let Some(c) = third {
-            self.labels[c.set as usize] = eval_and_from(self.first, c.gate);
-        }
+        self.labels[c.set as usize] = third;
     }
 }

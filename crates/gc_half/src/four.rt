@@ -9,6 +9,7 @@ ghost use Rattle.gc_half.specs.Evaluation.{AreActiveFrom, row_at};
 ghost use Rattle.gc_half.specs.SideBySide.{CanStep, IsStep};
 
 use crate::active_labels::input_active_labels;
+use crate::evaluate::Evaluation;
 use crate::first::FirstAnd;
 use crate::garbling::RowPair;
 use crate::half_gate::{AndStep, eval_four_ands_from};
@@ -28,15 +29,6 @@ pub struct Four<T> {
     pub c: T,
     /// and of the fourth.
     pub d: T,
-}
-
-/// What an evaluation begins with.
-#[derive(Clone, Copy)]
-pub struct Evaluation<'r> {
-    /// The row pair of each AND gate.
-    pub rows: &'r [RowPair],
-    /// The active labels of the input wires.
-    pub inputs: &'r [Label],
 }
 
 /// The active labels of all wires in four evaluations of one circuit, made side by side on one thread ("Two Halves Make
@@ -67,71 +59,66 @@ pub fn evaluate_four_from<A: Allocator + Copy, C: Allocator>(
         given.entry.d.rows.now given.entry.d.inputs.now all.d.items) }
 {
     circuit.law_lawful();
-    let mut one = Lane::new(alloc, circuit, given.a)?;
-    let mut two = Lane::new(alloc, circuit, given.b)?;
-    let mut three = Lane::new(alloc, circuit, given.c)?;
-    let mut four = Lane::new(alloc, circuit, given.d)?;
+    let mut lanes = Four {
+        a: Lane::new(alloc, circuit, given.a)?,
+        b: Lane::new(alloc, circuit, given.b)?,
+        c: Lane::new(alloc, circuit, given.c)?,
+        d: Lane::new(alloc, circuit, given.d)?,
+    };
     let mut k = 0;
     for i in 0..circuit.gates() {
         let gate = circuit.gate(i);
-        step(first, k, gate, &mut one, &mut two, &mut three, &mut four);
+        step(first, k, gate, &mut lanes);
         if gate.operation.is_and() {
             k += 1;
         }
     }
+    let Four { a, b, c, d } = lanes;
     Ok(Four {
-        a: one.into_labels(),
-        b: two.into_labels(),
-        c: three.into_labels(),
-        d: four.into_labels(),
+        a: a.into_labels(),
+        b: b.into_labels(),
+        c: c.into_labels(),
+        d: d.into_labels(),
     })
 }
 
 /// Evaluates one more gate in four evaluations. An AND gate is the k-th, counted from 0. The caller ensures that there
 /// are the wires and the row pairs.
 #[inline(always)]
-fn step<A: Allocator>(
-    first: FirstAnd,
-    k: u32,
-    gate: Gate,
-    a: &mut Lane<'_, A>,
-    b: &mut Lane<'_, A>,
-    c: &mut Lane<'_, A>,
-    d: &mut Lane<'_, A>,
-)
-    requires a { CanStep k gate a.old.rows.now a.old.labels.items }
-    requires b { CanStep k gate b.old.rows.now b.old.labels.items }
-    requires c { CanStep k gate c.old.rows.now c.old.labels.items }
-    requires d { CanStep k gate d.old.rows.now d.old.labels.items }
+fn step<A: Allocator>(first: FirstAnd, k: u32, gate: Gate, lanes: &mut Four<Lane<'_, A>>)
+    requires a { CanStep k gate lanes.old.a.rows.now lanes.old.a.labels.items }
+    requires b { CanStep k gate lanes.old.b.rows.now lanes.old.b.labels.items }
+    requires c { CanStep k gate lanes.old.c.rows.now lanes.old.c.labels.items }
+    requires d { CanStep k gate lanes.old.d.rows.now lanes.old.d.labels.items }
     ensures a { IsStep (numbered_from first hash) k gate
-        a.old.rows.now a.old.labels.items a.new.rows.now a.new.labels.items }
+        lanes.old.a.rows.now lanes.old.a.labels.items lanes.new.a.rows.now lanes.new.a.labels.items }
     ensures b { IsStep (numbered_from first hash) k gate
-        b.old.rows.now b.old.labels.items b.new.rows.now b.new.labels.items }
+        lanes.old.b.rows.now lanes.old.b.labels.items lanes.new.b.rows.now lanes.new.b.labels.items }
     ensures c { IsStep (numbered_from first hash) k gate
-        c.old.rows.now c.old.labels.items c.new.rows.now c.new.labels.items }
+        lanes.old.c.rows.now lanes.old.c.labels.items lanes.new.c.rows.now lanes.new.c.labels.items }
     ensures d { IsStep (numbered_from first hash) k gate
-        d.old.rows.now d.old.labels.items d.new.rows.now d.new.labels.items }
+        lanes.old.d.rows.now lanes.old.d.labels.items lanes.new.d.rows.now lanes.new.d.labels.items }
 {
     if let Operation::And(_, _) = gate.operation {
         let [w, x, y, z] = eval_four_ands_from(
             first,
             [
-                a.and_step(k, gate.operation),
-                b.and_step(k, gate.operation),
-                c.and_step(k, gate.operation),
-                d.and_step(k, gate.operation),
+                lanes.a.and_step(k, gate.operation),
+                lanes.b.and_step(k, gate.operation),
+                lanes.c.and_step(k, gate.operation),
+                lanes.d.and_step(k, gate.operation),
             ],
         );
-        a.set(gate.set, w);
-        b.set(gate.set, x);
-        c.set(gate.set, y);
-        d.set(gate.set, z);
+        lanes.a.set(gate.set, w);
+        lanes.b.set(gate.set, x);
+        lanes.c.set(gate.set, y);
+        lanes.d.set(gate.set, z);
         return;
     }
-    a.free(first, k, gate);
-    b.free(first, k, gate);
-    c.free(first, k, gate);
-    d.free(first, k, gate);
+    lanes.a.free(first, k, gate);
+    lanes.b.free(first, k, gate);
+    lanes.c.free(first, k, gate);
+    lanes.d.free(first, k, gate);
 }
 
 /// One evaluation so far: its row pairs, and the active label of each wire.
@@ -203,13 +190,9 @@ impl<'r, A: Allocator> Lane<'r, A> {
         ensures { IsStep (numbered_from first hash) k gate
             self.old.rows.now self.old.labels.items self.new.rows.now self.new.labels.items }
     {
+        // What a gate reads second is zero where it reads no second wire.
         let (a, b) = labels_read(&self.labels, gate.operation);
-        let label = match gate.operation {
-            Operation::Xor(_, _) => a.xor(b),
-            Operation::Eq(_) | Operation::And(_, _) => Label::ZERO,
-            Operation::Inv(_) | Operation::Eqw(_) => a,
-        };
-        self.labels[gate.set as usize] = label;
+        self.labels[gate.set as usize] = a.xor(b);
     }
 
     /// The labels of all wires.

@@ -48,10 +48,10 @@ pub use active_labels::input_active_labels;
 pub use bit_label::encode;
 pub use compare::garble_and_compare;
 pub use entry::{four_output_entries, output_entry};
-pub use evaluate::{evaluate_from, evaluate_labels, output_labels};
+pub use evaluate::{Evaluation, evaluate_from, evaluate_labels, output_labels};
 pub use first::FirstAnd;
-pub use four::{Evaluation, Four, evaluate_four_from};
-pub use garble::{garble_from, garble_one_thread};
+pub use four::{Four, evaluate_four_from};
+pub use garble::{Start, garble_from, garble_one_thread};
 pub use garbling::{GarbledAnd, Garbling, Mismatch, RowPair};
 pub use half_gate::{
     AndGate, AndStep, eval_and, eval_four_ands, eval_two_ands, garble_and, garble_two_ands,

@@ -36,46 +36,46 @@ pub fn garble_gate(
     k: u32,
     offset: Offset,
     operation: Operation,
-    first: Label,
-    second: Label,
+    read: (Label, Label),
 ) -> (Label, Option<RowPair>)
-    ensures zero_label { result.0 ≡ gate_zero hash offset k operation first second }
-    ensures rows { result.1 ≡ gate_rows hash offset k operation first second }
+    ensures zero_label { result.0 ≡ gate_zero hash offset k operation read.0 read.1 }
+    ensures rows { result.1 ≡ gate_rows hash offset k operation read.0 read.1 }
 {
-    match operation {
-        Operation::Xor(_, _) => (first.xor(second), None),
+    let (first, second) = read;
+    // Always a sum, so that the compiler stores the label at once: a label that is stored in two words delays the gate
+    // that reads it next.
+    let (one, other) = match operation {
+        Operation::Xor(_, _) => (first, second),
         Operation::And(_, _) => {
             let garbled = garble_and(k, offset, first, second);
-            (garbled.zero_label, Some(garbled.rows))
+            return (garbled.zero_label, Some(garbled.rows));
         }
-        Operation::Inv(_) => (first.xor(offset.label()), None),
-        Operation::Eq(constant) => (offset.label().times(constant), None),
-        Operation::Eqw(_) => (first, None),
-    }
+        Operation::Inv(_) => (first, offset.label()),
+        Operation::Eq(constant) => (Label::ZERO, offset.label().times(constant)),
+        Operation::Eqw(_) => (first, Label::ZERO),
+    };
+    (one.xor(other), None)
 }
 
 /// Evaluates one gate from the active labels of the wires that it reads first and second: the active label of the wire
 /// that it sets. An AND gate is the k-th, counted from 0, and the caller ensures that the rows have a pair for it ("Two
 /// Halves Make a Whole", the procedure Ev).
 #[inline]
-pub fn evaluate_gate(
-    k: u32,
-    rows: &[RowPair],
-    operation: Operation,
-    first: Label,
-    second: Label,
-) -> Label
+pub fn evaluate_gate(k: u32, rows: &[RowPair], operation: Operation, read: (Label, Label)) -> Label
     requires { IsTrue (is_and operation) → k < length rows.now }
-    ensures { result ≡ gate_active hash k (row_at rows.now k) operation first second }
+    ensures { result ≡ gate_active hash k (row_at rows.now k) operation read.0 read.1 }
 {
-    match operation {
-        Operation::Xor(_, _) => first.xor(second),
+    let (first, second) = read;
+    // Always a sum, as in `garble_gate`.
+    let (one, other) = match operation {
+        Operation::Xor(_, _) => (first, second),
         Operation::And(_, _) => {
             let row = rows[k as usize];
-            eval_and(k, row.generator, row.evaluator, first, second)
+            return eval_and(k, row.generator, row.evaluator, first, second);
         }
-        Operation::Inv(_) => first,
-        Operation::Eq(_) => Label::ZERO,
-        Operation::Eqw(_) => first,
-    }
+        Operation::Inv(_) => (first, Label::ZERO),
+        Operation::Eq(_) => (Label::ZERO, Label::ZERO),
+        Operation::Eqw(_) => (first, Label::ZERO),
+    };
+    one.xor(other)
 }

@@ -133,25 +133,24 @@ fn garble_gate_of_both(
     ensures other_rows { result.1.1
         ≡ gate_rows (numbered_from 0 hash) other.offset other.k operation other.a other.b }
 {
-    match operation {
+    // Sums, as in `garble_gate`.
+    let ((a, b), (c, d)) = match operation {
+        Operation::Xor(_, _) => ((one.a, one.b), (other.a, other.b)),
         Operation::And(_, _) => {
             let (made, other_made) = garble_ands(one, other);
-            (
+            return (
                 (made.zero_label, Some(made.rows)),
                 (other_made.zero_label, Some(other_made.rows)),
-            )
+            );
         }
-        Operation::Xor(_, _) => ((one.a.xor(one.b), None), (other.a.xor(other.b), None)),
-        Operation::Inv(_) => (
-            (one.a.xor(one.offset.label()), None),
-            (other.a.xor(other.offset.label()), None),
-        ),
+        Operation::Inv(_) => ((one.a, one.offset.label()), (other.a, other.offset.label())),
         Operation::Eq(constant) => (
-            (one.offset.label().times(constant), None),
-            (other.offset.label().times(constant), None),
+            (Label::ZERO, one.offset.label().times(constant)),
+            (Label::ZERO, other.offset.label().times(constant)),
         ),
-        Operation::Eqw(_) => ((one.a, None), (other.a, None)),
-    }
+        Operation::Eqw(_) => ((one.a, Label::ZERO), (other.a, Label::ZERO)),
+    };
+    ((a.xor(b), None), (c.xor(d), None))
 }
 
 /// A garbling so far: its offset, the zero label of each wire and the row pair of each AND gate. No gate waits.
