@@ -29,30 +29,30 @@ module _ {h : ℕ → ℕ → ℕ} {c : Netlist} {rows lane_rows : List RowPair}
     {n : ℕ} (lawful : IsLawful c) (is : IsLane h c rows inputs n lane_rows labels) where
   module _ {g : Gate} (at : slice_get c.gates n ≡ Some g) {k : ℕ} (numbered : k ≡ and_number c n)
     where
-    pub can-step : length rows ≡ and_count c → CanStep k g lane_rows labels
-    can-step count =
-        let long = length-table _ c.wires labels is.followed in
-        record {
-          row = λ and.
-              rw is.rows_are (omega (arith, numbered, count, and_number-below c n g at and));
-          read = EachRead-map (λ w. w < c.wires) (λ w. w < length labels) g.operation
-              (λ w b. omega (arith, long, b))
-              (EachRead-below c lawful n g at);
-          place = omega (arith, long, lawful.sets n g at);
-        }
+      pub can-step : length rows ≡ and_count c → CanStep k g lane_rows labels
+      can-step count =
+          let long = length-table _ c.wires labels is.followed in
+          record {
+            row = λ and.
+                rw is.rows_are (omega (arith, numbered, count, and_number-below c n g at and));
+            read = EachRead-map (λ w. w < c.wires) (λ w. w < length labels) g.operation
+                (λ w b. omega (arith, long, b))
+                (EachRead-below c lawful n g at);
+            place = omega (arith, long, lawful.sets n g at);
+          }
 
-    pub lane-next : {new_rows : List RowPair} {new : List ℕ}
-        → IsStep h k g lane_rows labels new_rows new
-        → IsLane h c rows inputs (n + 1) new_rows new
-    lane-next step =
-        let put : _ ≡ slice_set labels g.set (active_of h (slice_index labels) (and_number c n)
-            (row_at rows (and_number c n)) g.operation) =
-        step.label ∙ rw (is.rows_are, numbered) refl in
-        record {
-          rows_are = step.kept ∙ is.rows_are;
-          followed = put ∙ table_step (active_rule h c rows) (active_local h c rows) c lawful
-              (slice_index inputs) labels n g 0 _ is.followed at refl;
-        }
+      pub lane-next : {new_rows : List RowPair} {new : List ℕ}
+          → IsStep h k g lane_rows labels new_rows new
+          → IsLane h c rows inputs (n + 1) new_rows new
+      lane-next step =
+          let put : _ ≡ slice_set labels g.set (active_of h (slice_index labels) (and_number c n)
+          (row_at rows (and_number c n)) g.operation) =
+          step.label ∙ rw (is.rows_are, numbered) refl in
+          record {
+            rows_are = step.kept ∙ is.rows_are;
+            followed = put ∙ table_step (active_rule h c rows) (active_local h c rows) c lawful
+                (slice_index inputs) labels n g 0 _ is.followed at refl;
+          }
 
 pub lane-end : (first : ℕ) {c : Netlist} {rows lane_rows : List RowPair} {inputs labels all : List ℕ}
     {n : ℕ}

@@ -8,11 +8,11 @@ ghost use Rattle.gc_half.specs.OneGate.{first_read, second_read};
 ghost use Rattle.gc_half.specs.Evaluation.{AreActiveFrom, row_at};
 ghost use Rattle.gc_half.specs.SideBySide.{CanStep, IsStep, OfEach, OfBoth};
 
-use crate::active_labels::input_active_labels;
 use crate::evaluate::Evaluation;
 use crate::first::FirstAnd;
 use crate::garbling::RowPair;
 use crate::half_gate::{AndStep, eval_four_ands_from};
+use crate::labels::padded_labels;
 use crate::one_gate::labels_read;
 use gc_circuit::{Circuit, Gate, Memory, Operation};
 use gc_label::Label;
@@ -134,7 +134,7 @@ impl<'r, A: Allocator> Lane<'r, A> {
             ≡ map (slice_index given.entry.inputs.now) (range_with_len 0 circuit.now.wires)) }
     {
         circuit.law_lawful();
-        let labels = input_active_labels(alloc, circuit.wires(), given.inputs)?;
+        let labels = padded_labels(alloc, circuit.wires(), given.inputs)?;
         Ok(Lane {
             rows: given.rows,
             labels,
