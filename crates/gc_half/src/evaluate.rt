@@ -8,10 +8,10 @@ ghost use Rattle.gc_half.specs.Evaluation.{AreActiveFrom};
 ghost use Rattle.gc_half.specs.Joined.{AreOutputLabels};
 ghost use Rattle.gc_half.specs.Pieces.{EvaluatesOn, CanEvaluate, EndsPiece};
 
-use crate::active_labels::input_active_labels;
 use crate::active_table::ActiveTable;
 use crate::first::FirstAnd;
 use crate::garbling::RowPair;
+use crate::labels::padded_labels;
 use crate::numbers::left_after;
 use gc_circuit::{Circuit, Memory};
 use gc_label::Label;
@@ -41,7 +41,7 @@ pub fn evaluate_from<A: Allocator + Copy, C: Allocator>(
         given.entry.rows.now given.entry.inputs.now v.items) }
 {
     circuit.law_lawful();
-    let labels = input_active_labels(alloc, circuit.wires(), given.inputs)?;
+    let labels = padded_labels(alloc, circuit.wires(), given.inputs)?;
     let (active, _) = evaluate_piece(circuit, ActiveTable::new(first, labels), 0, given.rows);
     Ok(active.into_labels())
 }

@@ -6,13 +6,13 @@ ghost use Rattle.gc_netlist.specs.Circuit.{EachRead, and_count, input_wires, is_
 ghost use Rattle.gc_half.specs.Hash.{hash, numbered_from};
 ghost use Rattle.gc_half.specs.OneGate.{first_read, second_read};
 ghost use Rattle.gc_half.specs.Evaluation.{AreActiveFrom, row_at};
-ghost use Rattle.gc_half.specs.SideBySide.{CanStep, IsStep};
+ghost use Rattle.gc_half.specs.SideBySide.{CanStep, IsStep, OfEach, OfBoth};
 
-use crate::active_labels::input_active_labels;
 use crate::evaluate::Evaluation;
 use crate::first::FirstAnd;
 use crate::garbling::RowPair;
 use crate::half_gate::{AndStep, eval_four_ands_from};
+use crate::labels::padded_labels;
 use crate::one_gate::labels_read;
 use gc_circuit::{Circuit, Gate, Memory, Operation};
 use gc_label::Label;
@@ -86,18 +86,9 @@ pub fn evaluate_four_from<A: Allocator + Copy, C: Allocator>(
 /// are the wires and the row pairs.
 #[inline(always)]
 fn step<A: Allocator>(first: FirstAnd, k: u32, gate: Gate, lanes: &mut Four<Lane<'_, A>>)
-    requires a { CanStep k gate lanes.old.a.rows.now lanes.old.a.labels.items }
-    requires b { CanStep k gate lanes.old.b.rows.now lanes.old.b.labels.items }
-    requires c { CanStep k gate lanes.old.c.rows.now lanes.old.c.labels.items }
-    requires d { CanStep k gate lanes.old.d.rows.now lanes.old.d.labels.items }
-    ensures a { IsStep (numbered_from first hash) k gate
-        lanes.old.a.rows.now lanes.old.a.labels.items lanes.new.a.rows.now lanes.new.a.labels.items }
-    ensures b { IsStep (numbered_from first hash) k gate
-        lanes.old.b.rows.now lanes.old.b.labels.items lanes.new.b.rows.now lanes.new.b.labels.items }
-    ensures c { IsStep (numbered_from first hash) k gate
-        lanes.old.c.rows.now lanes.old.c.labels.items lanes.new.c.rows.now lanes.new.c.labels.items }
-    ensures d { IsStep (numbered_from first hash) k gate
-        lanes.old.d.rows.now lanes.old.d.labels.items lanes.new.d.rows.now lanes.new.d.labels.items }
+    requires { OfEach (λ lane. CanStep k gate lane.rows.now lane.labels.items) lanes.old }
+    ensures { OfBoth (λ old new. IsStep (numbered_from first hash) k gate
+        old.rows.now old.labels.items new.rows.now new.labels.items) lanes.old lanes.new }
 {
     if let Operation::And(_, _) = gate.operation {
         let [w, x, y, z] = eval_four_ands_from(
@@ -143,7 +134,7 @@ impl<'r, A: Allocator> Lane<'r, A> {
             ≡ map (slice_index given.entry.inputs.now) (range_with_len 0 circuit.now.wires)) }
     {
         circuit.law_lawful();
-        let labels = input_active_labels(alloc, circuit.wires(), given.inputs)?;
+        let labels = padded_labels(alloc, circuit.wires(), given.inputs)?;
         Ok(Lane {
             rows: given.rows,
             labels,

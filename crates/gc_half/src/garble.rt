@@ -9,8 +9,8 @@ ghost use Rattle.gc_half.specs.Waiting.{rows_made};
 
 use crate::first::FirstAnd;
 use crate::garbling::{Garbling, NO_ROWS, RowPair};
+use crate::labels::{input_zero_labels, padded_labels};
 use crate::numbers::left_after;
-use crate::zero_labels::{input_zero_labels, padded_labels};
 use crate::zero_table::ZeroTable;
 use gc_circuit::{Circuit, Memory};
 use gc_label::{Label, Offset, Seed, offset};

@@ -13,7 +13,7 @@ use crate::evaluate::output_labels;
 use crate::first::FirstAnd;
 use crate::garble::{Start, garble_piece};
 use crate::garbling::RowPair;
-use crate::zero_labels::{input_zero_labels, padded_labels};
+use crate::labels::{input_zero_labels, padded_labels};
 use crate::zero_table::ZeroTable;
 use gc_circuit::{Circuit, Memory};
 use gc_label::{Label, Offset, Seed, offset};
