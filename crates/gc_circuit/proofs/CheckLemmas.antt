@@ -1,11 +1,11 @@
 -- Checking gates against a table of marks.
-use Rattle.std.proofs.Common.{inl, inr, ◌≡◌, ℕ, zero, suc, ◌+◌, ◌-◌, ◌<◌, ◌≤◌, ◌==◌, ◌++◌, List, [], ◌∷◌, Bool, true, false, cond, length, map, set, take, get_or, slice_index_or, replicate, count_by, Option, Some, Result, Ok, Err, refl, sym, ap, ◌∙◌, arith}
+use Rattle.std.proofs.Common.{inl, inr, ◌≡◌, ℕ, zero, suc, ◌+◌, ◌-◌, ◌<◌, ◌≤◌, ◌==◌, ◌++◌, List, [], ◌∷◌, Bool, true, false, cond, length, map, set, take, get_or, slice_set, slice_index_or, replicate, Option, Some, Result, Ok, Err, refl, sym, ap, ◌∙◌, arith}
 use Rattle.std.specs.Int.{from_bool}
 use Rattle.std.specs.List.{range_with_len}
 use Rattle.std.proofs.lemmas.Bool.Decides.{nat_tests}
 use Rattle.std.proofs.lemmas.List.{length-set, get_or-set_same, get_or-set_other}
 use Rattle.std.proofs.lemmas.Grind.{common_steps}
-use Rattle.std.proofs.lemmas.List.Sums.{sum_by-append}
+use Rattle.std.proofs.lemmas.List.Sums.{sum_by-append, count_by-le-length}
 use Rattle.std.proofs.lemmas.List.Folds.{list_any-append}
 use Rattle.std.proofs.lemmas.List.FromFn.{fill_by_all}
 use Rattle.gc_netlist.specs.declared.fault.ReadFault.{ReadFault}
@@ -13,6 +13,7 @@ use Rattle.gc_netlist.specs.declared.gate.Gate.{Gate}
 use Rattle.gc_netlist.specs.declared.gate.Operation.{Operation}
 use Rattle.gc_netlist.specs.Circuit.{is_and}
 use Rattle.gc_netlist.specs.Met.{wire_at_fault}
+use Rattle.gc_circuit.specs.Gates.{AreMarked}
 use Rattle.gc_circuit.specs.Stop.{GateStops, GatesStop}
 use Rattle.gc_netlist.proofs.Tables.{read-table, length-table}
 use Rattle.gc_netlist.specs.Reading.{◌>>=◌, gate_at, is_set, check_read, check_set, check_reads, check_gate, gates_at}
@@ -65,7 +66,7 @@ module _ (inputs n : ℕ) (before : List Gate) (marks : List Bool)
       inr (g, read, rw (← marks_read g) bad, rw (← wire_read g.set g.operation) at)
 
 -- a gate more
-pub marks_more : (inputs n : ℕ) (before : List Gate) (g : Gate) (marks : List Bool) →
+marks_more : (inputs n : ℕ) (before : List Gate) (g : Gate) (marks : List Bool) →
     marks ≡ map (is_set inputs before) (range_with_len 0 n) → g.set < n →
     set marks g.set true ≡ map (is_set inputs (before ++ g ∷ [])) (range_with_len 0 n)
 marks_more inputs n before g marks is within =
@@ -98,16 +99,33 @@ start_table inputs wires none first_len empty first second fits e n is_first len
     rw second_is (fill_by_all (is_set inputs []) _ wires false (grind (arith, common_steps))
     (λ k below. grind (arith, nat_tests, common_steps)))
 
--- how many AND gates there are with one gate more
-pub ands_more : (before : List Gate) (g : Gate) (n k : ℕ) →
-    n ≡ count_by (λ x. is_and x.operation) before → (t : Bool) → t ≡ is_and g.operation →
-    k ≡ from_bool t →
-    n + k ≡ count_by (λ x. is_and x.operation) (before ++ g ∷ [])
-ands_more before g n k so_far t is one =
-    grind (arith, sum_by-append (λ (x : Gate). cond (is_and x.operation) 1 0) before (g ∷ []))
+-- The table and the number of AND gates, with one gate more
+pub marked_more : (wires inputs : ℕ) (before after : List Gate) (set : List Bool) (ands k : ℕ)
+    (t : Bool) (g : Gate) → g.set < length set → after ≡ before ++ g ∷ [] →
+    t ≡ is_and g.operation → k ≡ from_bool t → AreMarked wires inputs before set ands →
+    AreMarked wires inputs after (slice_set set g.set true) (ands + k)
+marked_more wires inputs before after set ands k t g within more is one are =
+    let len = marks_len inputs wires before set are.table in
+    let last = sum_by-append (λ (x : Gate). cond (is_and x.operation) 1 0) before (g ∷ []) in
+    let counted = are.counted in
+    rw more (record {
+      table = marks_more inputs wires before g set are.table (omega arith);
+      counted = grind (arith, last);
+    })
 
-pub ands_few : (n i k : ℕ) (t : Bool) → n ≤ i → k ≡ from_bool t → n + k ≤ i + 1
-ands_few n i k t few one = grind arith
+-- A gate that passes the check by the table passes it by the gates before.
+pub marked_passes : {wires inputs : ℕ} {before : List Gate} {set : List Bool} {ands : ℕ}
+    (marks : List Bool) (g : Gate) → AreMarked wires inputs before set ands → marks ≡ set →
+    check_gate (length marks) (λ w. slice_index_or marks w false) g ≡ Ok tt →
+    check_gate wires (is_set inputs before) g ≡ Ok tt
+marked_passes {wires = wires} {inputs = inputs} {before = before} marks g are is passes =
+    sym (marks_read inputs wires before marks (is ∙ are.table) g) ∙ passes
+
+-- There are no more AND gates than gates.
+pub few_ands : {wires inputs : ℕ} {before : List Gate} {set : List Bool} {ands : ℕ} (n : ℕ) →
+    AreMarked wires inputs before set ands → length before < n → ands < n
+few_ands {before = before} n are few =
+    omega (arith, are.counted, count_by-le-length (λ (x : Gate). is_and x.operation) before)
 
 bind_assoc : {A B C : Type 0} (r : Result A ReadFault) (f : A → Result B ReadFault)
     (k : B → Result C ReadFault) → ((r >>= f) >>= k) ≡ (r >>= (λ x. f x >>= k))

@@ -1,16 +1,17 @@
 //! Circuits from arrays of gates.
 
-ghost use Rattle.std.specs.Prelude.{◌≡◌, ◌≢◌, ◌⊎◌, ℕ, ◌≤◌, ◌∷◌, ◌++◌, List, [], length, map, sum, count_by, slice_index_or, true, false, IfOk, IfErr, OnOk, MatchResult, Some, None, Ok, Err, decimal};
-ghost use Rattle.std.specs.List.{range_with_len};
-ghost use Rattle.gc_netlist.specs.Circuit.{Netlist, IsLawful, is_and};
+ghost use Rattle.std.specs.Prelude.{◌≡◌, ◌≢◌, ◌⊎◌, ℕ, ◌≤◌, ◌∷◌, ◌++◌, List, [], length, map, sum, slice_index_or, true, false, IfOk, IfErr, OnOk, MatchResult, Some, None, Ok, Err, decimal};
+ghost use Rattle.gc_netlist.specs.Circuit.{Netlist, IsLawful};
 ghost use Rattle.gc_netlist.specs.Spelling.{words_of_gate, words_of_widths};
 ghost use Rattle.gc_netlist.specs.Canon.{written, canonical_text};
-ghost use Rattle.gc_netlist.specs.Reading.{limited_at, widths_at, gate_at, check_gate, is_set, gates_at};
+ghost use Rattle.gc_netlist.specs.Reading.{limited_at, widths_at, gate_at, check_gate, gates_at};
 ghost use Rattle.gc_circuit.specs.Arrays.{words_of_numbers, tokens_of, text_of, IsFound};
+ghost use Rattle.gc_circuit.specs.Gates.{AreMarked};
 ghost use Rattle.gc_circuit.specs.Stop.{GateStops, GatesStop, IsRefused};
 
 use crate::circuit::Circuit;
-use crate::read::{Gates, Widths, check_next, check_outputs, inputs_set, sum_of};
+use crate::gates::{Gates, Wires};
+use crate::read::{Widths, check_next, check_outputs, sum_of};
 use crate::stop::Stop;
 use gc_netlist::{Gate, MAX_GATES, MAX_VALUES, MAX_WIRES, Operation, ReadFault};
 use std::alloc::{AllocFailed, Allocator};
@@ -169,38 +170,27 @@ fn next_gate(numbers: GateNumbers, is_set: &[bool], number: u32) -> Result<Gate,
 /// The gates of these numbers, each checked against those before it.
 fn check_gates<A: Allocator + Copy>(
     alloc: A,
-    wires: u32,
-    inputs: u32,
+    wires: Wires,
     numbers: &[GateNumbers],
 ) -> Result<Gates<A>, Stop>
-    requires fits { inputs ≤ wires }
+    requires fits { wires.inputs ≤ wires.count }
     requires few { length numbers.now ≤ MAX_GATES }
-    ensures read { IfOk result (λ g. gates_at wires inputs (length numbers.now) []
+    ensures read { IfOk result (λ g. gates_at wires.count wires.inputs (length numbers.now) []
         (tokens_of numbers.now) ≡ Ok (g.gates.items, [])) }
     ensures words { IfOk result (λ g.
         map words_of_gate g.gates.items ≡ map words_of_numbers numbers.now) }
-    ensures table { IfOk result (λ g. g.is_set.items
-        ≡ map (is_set inputs g.gates.items) (range_with_len 0 wires)) }
-    ensures ands { IfOk result (λ g.
-        g.and_count ≡ count_by (λ x. is_and x.operation) g.gates.items) }
+    ensures marked { IfOk result (λ g. AreMarked wires.count wires.inputs
+        g.gates.items g.is_set.items g.and_count) }
     ensures stops { IfErr result (λ s. IsRefused s.fault s.gate s.wire
-        ⊎ ((left : List (List ℕ)) × GatesStop wires inputs (length numbers.now)
+        ⊎ ((left : List (List ℕ)) × GatesStop wires.count wires.inputs (length numbers.now)
         (tokens_of numbers.now) left s.fault s.back s.gate s.wire)) }
 {
-    let mut is_set = inputs_set(alloc, wires, inputs)?;
-    let mut gates = Vec::with_capacity(alloc, numbers.len())?;
-    let mut and_count = 0;
+    let mut body = Gates::new(alloc, wires, numbers.len())?;
     for (i, next) in numbers.iter().enumerate() {
-        let gate = next_gate(*next, &is_set, i as u32)?;
-        is_set[gate.set as usize] = true;
-        and_count += u32::from(gate.operation.is_and());
-        gates.push(gate)?;
+        let gate = next_gate(*next, &body.is_set, i as u32)?;
+        body.push(gate)?;
     }
-    Ok(Gates {
-        gates,
-        and_count,
-        is_set,
-    })
+    Ok(body)
 }
 
 /// Takes the counts, the widths and the gates, in the order of a text.
@@ -214,9 +204,13 @@ fn take_in_order<A: Allocator + Copy>(alloc: A, arrays: Arrays<'_>) -> Result<Ci
     check_limit(arrays.wires as usize, MAX_WIRES)?;
     let inputs = copy_widths(alloc, arrays.input_widths, arrays.wires)?;
     let outputs = copy_widths(alloc, arrays.output_widths, arrays.wires)?;
-    let body = check_gates(alloc, arrays.wires, inputs.sum, arrays.gates)?;
+    let sizes = Wires {
+        count: arrays.wires,
+        inputs: inputs.sum,
+    };
+    let body = check_gates(alloc, sizes, arrays.gates)?;
     check_outputs(&body.is_set, outputs.sum)?;
-    Ok(Circuit::new(arrays.wires, inputs, outputs, body.gates, body.and_count))
+    Ok(Circuit::new(arrays.wires, inputs, outputs, body))
 }
 
 impl<A: Allocator + Copy> Circuit<A> {

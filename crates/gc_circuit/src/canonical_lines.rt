@@ -61,40 +61,40 @@ fn write_name(room: &mut Room, end: usize, name: &[u8]) -> usize
     write_bytes(room, line_end, name)
 }
 
-/// Writes the line of a gate that reads one number, a wire or a constant: its counts, the number, the wire set, the
-/// name.
-fn write_line_of_one(room: &mut Room, end: usize, read: u32, set: u32, name: &[u8]) -> usize
-    requires { (length name.now ≤ 3) × (LONGEST ≤ end) × (end ≤ ROOM) }
+/// Writes the wire that a gate sets, the gate's name and the end of its line before the place `end`, and returns where
+/// they start.
+#[inline(always)]
+fn write_set(room: &mut Room, end: usize, set: u32, name: &[u8]) -> usize
+    requires { (length name.now ≤ 3) × (15 ≤ end) × (end ≤ ROOM) }
     ensures written { drop result room.new
-        ≡ line (Number 1 ∷ Number 1 ∷ Number read ∷ Number set ∷ Name name.now ∷ [])
-        ++ drop end room.old }
-    ensures start { (result ≤ end) × (end ≤ result + LONGEST) }
+        ≡ decimal set ++ 32 ∷ (name.now ++ 10 ∷ drop end room.old) }
+    ensures start { (result ≤ end) × (end ≤ result + 15) }
 {
     let start = write_name(room, end, name);
-    let start = write_number(room, start, set);
-    let start = write_number(room, start, read);
+    write_number(room, start, set)
+}
+
+/// Writes the counts of a gate that reads one number, and the number, a wire or a constant, before the place `end`.
+/// Returns where they start.
+fn write_one(room: &mut Room, end: usize, read: u32) -> usize
+    requires { (15 ≤ end) × (end ≤ ROOM) }
+    ensures written { drop result room.new
+        ≡ 49 ∷ 32 ∷ 49 ∷ 32 ∷ (decimal read ++ 32 ∷ drop end room.old) }
+    ensures start { (result ≤ end) × (end ≤ result + 15) }
+{
+    let start = write_number(room, end, read);
     write_bytes(room, start, b"1 1 ")
 }
 
-/// Writes the line of a gate that reads two wires: its counts, the wires, the wire set, the name.
-fn write_line_of_two(
-    room: &mut Room,
-    end: usize,
-    first: u32,
-    second: u32,
-    set: u32,
-    name: &[u8],
-) -> usize
-    requires { (length name.now ≤ 3) × (LONGEST ≤ end) × (end ≤ ROOM) }
+/// Writes the counts of a gate that reads two wires, and these wires, before the place `end`. Returns where they start.
+#[inline(always)]
+fn write_two(room: &mut Room, end: usize, first: u32, second: u32) -> usize
+    requires { (26 ≤ end) × (end ≤ ROOM) }
     ensures written { drop result room.new
-        ≡ line
-        (Number 2 ∷ Number 1 ∷ Number first ∷ Number second ∷ Number set ∷ Name name.now ∷ [])
-        ++ drop end room.old }
-    ensures start { (result ≤ end) × (end ≤ result + LONGEST) }
+        ≡ 50 ∷ 32 ∷ 49 ∷ 32 ∷ (decimal first ++ 32 ∷ (decimal second ++ 32 ∷ drop end room.old)) }
+    ensures start { (result ≤ end) × (end ≤ result + 26) }
 {
-    let start = write_name(room, end, name);
-    let start = write_number(room, start, set);
-    let start = write_number(room, start, second);
+    let start = write_number(room, end, second);
     let start = write_number(room, start, first);
     write_bytes(room, start, b"2 1 ")
 }
@@ -108,6 +108,7 @@ fn name_of_two(is_and: bool) -> &'static [u8]
 }
 
 /// Writes the line of a gate before the place `end`, and returns where it starts.
+#[tactic(auto, using(crate::proofs::LineLemmas::line_of_one, crate::proofs::LineLemmas::line_of_two))]
 pub fn write_gate(room: &mut Room, end: usize, gate: Gate) -> usize
     requires { (LONGEST ≤ end) × (end ≤ ROOM) }
     ensures written { drop result room.new ≡ line (words_of_gate gate) ++ drop end room.old }
@@ -116,11 +117,21 @@ pub fn write_gate(room: &mut Room, end: usize, gate: Gate) -> usize
     let set = gate.set;
     match gate.operation {
         Operation::Xor(a, b) | Operation::And(a, b) => {
-            write_line_of_two(room, end, a, b, set, name_of_two(gate.operation.is_and()))
+            let start = write_set(room, end, set, name_of_two(gate.operation.is_and()));
+            write_two(room, start, a, b)
         }
-        Operation::Inv(a) => write_line_of_one(room, end, a, set, b"INV"),
-        Operation::Eq(constant) => write_line_of_one(room, end, u32::from(constant), set, b"EQ"),
-        Operation::Eqw(a) => write_line_of_one(room, end, a, set, b"EQW"),
+        Operation::Inv(a) => {
+            let start = write_set(room, end, set, b"INV");
+            write_one(room, start, a)
+        }
+        Operation::Eq(constant) => {
+            let start = write_set(room, end, set, b"EQ");
+            write_one(room, start, u32::from(constant))
+        }
+        Operation::Eqw(a) => {
+            let start = write_set(room, end, set, b"EQW");
+            write_one(room, start, a)
+        }
     }
 }
 

@@ -2,6 +2,7 @@ ghost use Rattle.std.specs.Prelude.{◌≡◌, ◌<◌, ◌↔◌, length, slice
 ghost use Rattle.gc_netlist.specs.Circuit.{netlist_of, is_and, and_count, input_wires, output_wires, IsLawful, IsSummary};
 ghost use Rattle.gc_circuit.specs.Gates.{with_gates};
 
+use crate::gates::Gates;
 use crate::memory::Memory;
 use crate::read::Widths;
 use gc_netlist::Gate;
@@ -55,21 +56,22 @@ impl<A: Allocator> Circuit<A> {
         wires: u32,
         inputs: Widths<A>,
         outputs: Widths<A>,
-        gates: Vec<Gate, A>,
-        and_count: u32,
+        body: Gates<A>,
     ) -> Circuit<A>
-        requires { IsSummary (netlist_of wires inputs.widths.items outputs.widths.items gates.items)
-            inputs.sum outputs.sum and_count }
-        ensures { result ≡ netlist_of wires inputs.widths.items outputs.widths.items gates.items }
+        requires { IsSummary
+            (netlist_of wires inputs.widths.items outputs.widths.items body.gates.items)
+            inputs.sum outputs.sum body.and_count }
+        ensures { result
+            ≡ netlist_of wires inputs.widths.items outputs.widths.items body.gates.items }
     {
         Circuit {
             wires,
             input_wires: inputs.sum,
             output_wires: outputs.sum,
-            and_count,
+            and_count: body.and_count,
             input_widths: inputs.widths,
             output_widths: outputs.widths,
-            gates,
+            gates: body.gates,
         }
     }
 

@@ -10,6 +10,7 @@ mod checks;
 mod circuit;
 mod digest;
 mod eval;
+mod gates;
 mod hexadecimal;
 mod locate;
 mod memory;

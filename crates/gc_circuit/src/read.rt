@@ -1,15 +1,17 @@
-ghost use Rattle.std.specs.Prelude.{◌≡◌, ◌≢◌, ℕ, ◌<◌, ◌≤◌, ◌-◌, ◌^◌, [], length, map, sum, drop, count_by, slice_index_or, false, true, if◌then◌else◌, IfOk, IfErr, OnOk, IsFalse, MatchResult, Some, None, Ok, Err, vec_len};
-ghost use Rattle.std.specs.List.{range_with_len, list_all};
-ghost use Rattle.gc_netlist.specs.Circuit.{Netlist, IsLawful, is_and};
+ghost use Rattle.std.specs.Prelude.{◌≡◌, ◌≢◌, ℕ, ◌<◌, ◌≤◌, ◌-◌, ◌^◌, [], length, sum, drop, slice_index_or, false, true, if◌then◌else◌, IfOk, IfErr, OnOk, IsFalse, MatchResult, Some, None, Ok, Err, vec_len};
+ghost use Rattle.std.specs.List.{list_all};
+ghost use Rattle.gc_netlist.specs.Circuit.{Netlist, IsLawful};
 ghost use Rattle.gc_netlist.specs.Text.{tokens};
 ghost use Rattle.gc_netlist.specs.Spelling.{SpellWords, Spells, words_of_circuit};
 ghost use Rattle.gc_netlist.specs.FirstFault.{FirstFault};
-ghost use Rattle.gc_netlist.specs.Reading.{numbers_at, widths_at, gate_at, check_gate, gates_at, circuit_of, is_set};
+ghost use Rattle.gc_netlist.specs.Reading.{numbers_at, widths_at, gate_at, check_gate, gates_at, circuit_of};
 ghost use Rattle.gc_netlist.specs.Met.{numbers_left, widths_left, wire_at_fault, IsMet};
+ghost use Rattle.gc_circuit.specs.Gates.{AreMarked};
 ghost use Rattle.gc_circuit.specs.Stop.{GateStops, GatesStop, IsUnset};
 
 use crate::checks::{check_gate, wire_at_fault};
 use crate::circuit::Circuit;
+use crate::gates::{Gates, Wires};
 use crate::stop::Stop;
 use gc_netlist::{Gate, MAX_GATES, MAX_VALUES, MAX_WIRES, ReadFault};
 use gc_tokens::{Tokens, read_gate};
@@ -23,14 +25,6 @@ const SHORTEST_GATE: usize = 11;
 pub(crate) struct Widths<A: Allocator> {
     pub(crate) widths: Vec<u32, A>,
     pub(crate) sum: u32,
-}
-
-/// The gates of a circuit, how many of them are AND gates, and a table of the wires that are set.
-#[derive(Drop)]
-pub(crate) struct Gates<A: Allocator> {
-    pub(crate) gates: Vec<Gate, A>,
-    pub(crate) and_count: u32,
-    pub(crate) is_set: Vec<bool, A>,
 }
 
 /// The next numbers, a given number of them.
@@ -92,22 +86,6 @@ fn read_widths<A: Allocator>(
     }
 }
 
-/// The table of the wires that are set before any gate: the input wires.
-pub(crate) fn inputs_set<A: Allocator>(
-    alloc: A,
-    wires: u32,
-    inputs: u32,
-) -> Result<Vec<bool, A>, ReadFault>
-    requires { inputs ≤ wires }
-    ensures { MatchResult result (λ v. v.items ≡ map (is_set inputs []) (range_with_len 0 wires))
-        (λ e. e ≡ ReadFault.Memory) }
-{
-    let mut is_set = Vec::with_capacity(alloc, wires as usize)?;
-    is_set.resize(inputs as usize, true)?;
-    is_set.resize(wires as usize, false)?;
-    Ok(is_set)
-}
-
 /// Checks a gate against those before it, of which there are `number`.
 #[inline(always)]
 pub(crate) fn check_next(gate: Gate, is_set: &[bool], number: u32) -> Result<(), Stop>
@@ -159,38 +137,29 @@ fn next_gate(tokens: &mut Tokens<'_>, is_set: &[bool], number: u32) -> Result<Ga
 fn read_gates<A: Allocator + Copy>(
     alloc: A,
     tokens: &mut Tokens<'_>,
-    wires: u32,
-    inputs: u32,
+    wires: Wires,
     count: u32,
-    room: usize,
 ) -> Result<Gates<A>, Stop>
-    requires { inputs ≤ wires }
+    requires { wires.inputs ≤ wires.count }
     ensures read { MatchResult result
-        (λ g. gates_at wires inputs count [] tokens.old.left ≡ Ok (g.gates.items, tokens.new.left))
+        (λ g. gates_at wires.count wires.inputs count [] tokens.old.left
+        ≡ Ok (g.gates.items, tokens.new.left))
         (λ s. s.fault ≢ ReadFault.Memory
-        → gates_at wires inputs count [] tokens.old.left ≡ Err s.fault) }
-    ensures table { IfOk result (λ g. g.is_set.items
-        ≡ map (is_set inputs g.gates.items) (range_with_len 0 wires)) }
-    ensures ands { IfOk result (λ g.
-        g.and_count ≡ count_by (λ x. is_and x.operation) g.gates.items) }
-    ensures stops { IfErr result (λ s. s.fault ≢ ReadFault.Memory → GatesStop wires inputs count
+        → gates_at wires.count wires.inputs count [] tokens.old.left ≡ Err s.fault) }
+    ensures marked { IfOk result (λ g. AreMarked wires.count wires.inputs
+        g.gates.items g.is_set.items g.and_count) }
+    ensures stops { IfErr result (λ s. s.fault ≢ ReadFault.Memory
+        → GatesStop wires.count wires.inputs count
         tokens.old.left tokens.new.left s.fault s.back s.gate s.wire) }
     ensures kept { tokens.new.text ≡ tokens.old.text }
 {
-    let mut is_set = inputs_set(alloc, wires, inputs)?;
-    let mut gates = Vec::with_capacity(alloc, room)?;
-    let mut and_count = 0;
+    let room = (tokens.text_len() / SHORTEST_GATE + 1).min(count as usize);
+    let mut body = Gates::new(alloc, wires, room)?;
     for i in 0..count {
-        let gate = next_gate(tokens, &is_set, i)?;
-        is_set[gate.set as usize] = true;
-        and_count += u32::from(gate.operation.is_and());
-        gates.push(gate)?;
+        let gate = next_gate(tokens, &body.is_set, i)?;
+        body.push(gate)?;
     }
-    Ok(Gates {
-        gates,
-        and_count,
-        is_set,
-    })
+    Ok(body)
 }
 
 /// Whether each of these wires is set.
@@ -277,10 +246,13 @@ impl<A: Allocator + Copy> Circuit<A> {
         let wires = tokens.number_up_to(MAX_WIRES)?;
         let inputs = read_widths(alloc, tokens, wires)?;
         let outputs = read_widths(alloc, tokens, wires)?;
-        let room = (tokens.text_len() / SHORTEST_GATE + 1).min(count as usize);
-        let body = read_gates(alloc, tokens, wires, inputs.sum, count, room)?;
+        let sizes = Wires {
+            count: wires,
+            inputs: inputs.sum,
+        };
+        let body = read_gates(alloc, tokens, sizes, count)?;
         check_outputs(&body.is_set, outputs.sum)?;
         tokens.end()?;
-        Ok(Circuit::new(wires, inputs, outputs, body.gates, body.and_count))
+        Ok(Circuit::new(wires, inputs, outputs, body))
     }
 }

@@ -53,7 +53,7 @@ steps g c =
 -- The table of the wires that are set
 table : (g : Over) (c : After-deref g) → let r = read g c in
     c.deref.result.now ≡ map (is_set (sum r.input_widths) r.gates) (range_with_len 0 r.wires)
-table g c = rw (c.deref.ensures.value, ← c.in_ok-inputs.ensures.sums) c.in_ok-body.ensures.table
+table g c = rw (c.deref.ensures.value, ← c.in_ok-inputs.ensures.sums) c.in_ok-body.ensures.marked.table
 
 pub returns-in_err-check_limit-clause-stops : goal.returns-in_err-check_limit-clause-stops
 returns-in_err-check_limit-clause-stops g c =
@@ -114,7 +114,7 @@ returns-in_err-body-clause-stops g c =
 
 pub check_outputs-requires : goal.check_outputs-requires
 check_outputs-requires g c =
-    let len = marks_len _ _ _ _ c.in_ok-body.ensures.table in
+    let len = marks_len _ _ _ _ c.in_ok-body.ensures.marked.table in
     let same = ap length c.deref.ensures.value in
     record {
       fits = omega (arith, c.in_ok-outputs.ensures.fits);
@@ -147,7 +147,7 @@ new-requires g c =
       lawful = circuit_of-lawful _ _ (whole g shared c.in_ok-check_outputs.ensures.read);
       counts_inputs = c.in_ok-inputs.ensures.sums;
       counts_outputs = c.in_ok-outputs.ensures.sums;
-      counts_ands = c.in_ok-body.ensures.ands;
+      counts_ands = c.in_ok-body.ensures.marked.counted;
     })
 
 pub returns-clause-canonical : goal.returns-clause-canonical

@@ -1,19 +1,15 @@
-use Rattle.std.proofs.Common.{◌≡◌, Ok, refl, sym, ◌∙◌, arith}
+use Rattle.std.proofs.Common.{length-append, refl, ◌∙◌, arith}
 use Rattle.std.proofs.lemmas.Result.{err_from_is_err_and}
-use Rattle.gc_netlist.specs.Reading.{is_set, check_gate, gates_at}
-use Rattle.gc_circuit.proofs.CheckLemmas.{marks_len, marks_read, marks_more, check_in_range, ands_more, ands_few, stops_found, gates_push, turn_stops, gates_stop}
-use Rattle.gc_circuit.proofs.read.read_gates.Given.{Over}
-use Rattle.gc_circuit.proofs.read.read_gates.Goals.{In_ok-gate}
+use Rattle.gc_netlist.specs.Reading.{gates_at}
+use Rattle.gc_circuit.proofs.CheckLemmas.{marked_passes, few_ands, stops_found, gates_push, turn_stops, gates_stop}
 use Rattle.gc_circuit.proofs.read.read_gates.Goals as goal
 
 pub loop-i-init : goal.loop-i-init
 unfolding gates_at
-loop-i-init g c = rw c.in_ok-gates.ensures.items (record {
-  table = c.in_ok-is_set.ensures;
+loop-i-init g c = rw c.in_ok-body.ensures.none (record {
+  marked = rw c.in_ok-body.ensures.none at c.in_ok-body.ensures.marked;
   read = refl;
   len = refl;
-  ands = refl;
-  few = omega arith;
   kept = refl;
 })
 
@@ -22,43 +18,31 @@ returns-in_err-gate g c =
     let p = err_from_is_err_and c.from_residual-in_err-gate.result
     c.from_residual-in_err-gate.ensures.1 in
     let before = c.loop-i.invariant in
-    let stops = stops_found c.args.inputs c.args.wires c.loop-i.gates.items c.deref.result.now
-    (c.deref.ensures.value ∙ before.table) _ _ _ _ _ c.in_err-gate.ensures.stops in
+    let stops = stops_found c.args.wires.inputs c.args.wires.count c.loop-i.body.gates.items
+    c.deref.result.now (c.deref.ensures.value ∙ before.marked.table) _ _ _ _ _
+    c.in_err-gate.ensures.stops in
     rw (p.1, p.2) (record {
       read = λ _. turn_stops _ _ _ _ _ _ _ _ _ _ _ c.loop-i-test.true before.read stops;
-      table = tt;
-      ands = tt;
+      marked = tt;
       stops = λ _. gates_stop _ _ _ _ _ _ _ _ _ _ _ c.loop-i-test.true before.read stops _
           before.len c.in_err-gate.ensures.in_gate;
       kept = c.in_err-gate.ensures.kept ∙ before.kept;
     })
 
--- The next gate passes the check by the gates before it.
-good : (g : Over) (c : In_ok-gate g) →
-    check_gate c.args.wires (is_set c.args.inputs c.loop-i.gates.items) c.in_ok-gate.gate ≡ Ok tt
-good g c = sym (marks_read c.args.inputs c.args.wires c.loop-i.gates.items c.deref.result.now
-    (c.deref.ensures.value ∙ c.loop-i.invariant.table) c.in_ok-gate.gate)
-    ∙ c.in_ok-gate.ensures.checked
-
-pub index_mut-requires : goal.index_mut-requires
-index_mut-requires g c =
-    let len = marks_len _ _ _ _ c.loop-i.invariant.table in
-    let within = check_in_range _ _ _ (good g (goal.at.index_mut-requires g c).In_ok-gate) in
-    omega arith
+pub push-requires : goal.push-requires
+push-requires g c = record {
+  passes = rw (← c.deref.ensures.value) c.in_ok-gate.ensures.checked;
+  few = few_ands _ c.loop-i.invariant.marked (omega (arith, c.loop-i.invariant.len));
+}
 
 pub loop-i-preserved : goal.loop-i-preserved
 loop-i-preserved g c =
-    let passes = good g (goal.at.loop-i-preserved g c).In_ok-gate in
     let before = c.loop-i.invariant in
+    let more = c.in_ok-push.ensures.more in
     record {
-      table = rw c.in_ok-push.ensures.items
-          (marks_more _ _ _ _ _ before.table (check_in_range _ _ _ passes));
-      read = rw c.in_ok-push.ensures.items
-          (gates_push _ _ _ _ _ _ _ _ before.read c.in_ok-gate.ensures.read passes);
-      len = omega (arith, c.in_ok-push.ensures.len, before.len);
-      ands = rw c.in_ok-push.ensures.items
-          (ands_more c.loop-i.gates.items c.in_ok-gate.gate _ _ before.ands _ c.is_and.ensures
-          c.from-and_count.ensures);
-      few = ands_few _ _ _ _ before.few c.from-and_count.ensures;
+      marked = c.in_ok-push.ensures.marked _ _ before.marked;
+      read = rw more (gates_push _ _ _ _ _ _ _ _ before.read c.in_ok-gate.ensures.read
+          (marked_passes _ _ before.marked c.deref.ensures.value c.in_ok-gate.ensures.checked));
+      len = rw more (simp length-append (omega (arith, before.len)));
       kept = c.in_ok-gate.ensures.kept ∙ before.kept;
     }

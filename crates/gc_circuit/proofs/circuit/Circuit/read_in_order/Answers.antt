@@ -36,7 +36,7 @@ steps g c = record {
 -- The table of the wires that are set
 table : (g : Over) (c : After-deref g) → let r = read g c in
     c.deref.result.now ≡ map (is_set (sum r.input_widths) r.gates) (range_with_len 0 r.wires)
-table g c = rw (c.deref.ensures.value, ← c.in_ok-inputs.ensures.sums) c.in_ok-body.ensures.table
+table g c = rw (c.deref.ensures.value, ← c.in_ok-inputs.ensures.sums) c.in_ok-body.ensures.marked.table
 
 -- says whether the check of the outputs passes.
 checked : (g : Over) (c : After-deref g) → check_outputs (read g c) ≡ cond (list_all (λ b. b)
@@ -47,7 +47,7 @@ checked g c = outputs_found (read g c) c.in_ok-outputs.outputs.sum c.deref.resul
 
 pub check_outputs-requires : goal.check_outputs-requires
 check_outputs-requires g c =
-    let len = marks_len _ _ _ _ c.in_ok-body.ensures.table in
+    let len = marks_len _ _ _ _ c.in_ok-body.ensures.marked.table in
     let same = ap length c.deref.ensures.value in
     record {
       fits = omega (arith, c.in_ok-outputs.ensures.fits);
@@ -146,7 +146,7 @@ new-requires g c =
           (whole g shared c.in_ok-check_outputs.ensures.read c.in_ok-end.ensures);
       counts_inputs = c.in_ok-inputs.ensures.sums;
       counts_outputs = c.in_ok-outputs.ensures.sums;
-      counts_ands = c.in_ok-body.ensures.ands;
+      counts_ands = c.in_ok-body.ensures.marked.counted;
     }
 
 pub returns-clause-reading : goal.returns-clause-reading
