@@ -14,13 +14,18 @@ mod figures;
 mod garbled;
 mod labels;
 mod laws;
+mod reference;
 mod rows;
 mod survey;
 
 pub use entries::EntryDifference;
 pub use figures::Stats;
-pub use garbled::{GarbledAudit, PartsAudit, are_counts_right, audit_compared, audit_garbled};
+pub use garbled::{
+    ComparedFile, GarbledAudit, PartsAudit, are_counts_right, audit_bits, audit_compared,
+    audit_garbled,
+};
 pub use labels::{LabelsVerdict, audit_labels, audit_labels_with_offset};
 pub use laws::law_audited_files;
-pub use rows::{DifferingRows, RowDifference};
+pub use reference::{Reference, SeedReference};
+pub use rows::{DifferingRows, RowDifference, audit_row_bytes};
 pub use survey::stats;
