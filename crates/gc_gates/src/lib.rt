@@ -26,6 +26,6 @@ pub use board_seats::{
 };
 pub use frame::Frame;
 pub use steps::{
-    Place, Words, claim, load_high, load_low, load_state, store_done, store_high, store_low,
+    GateAt, Place, Words, claim, load_high, load_low, load_state, store_done, store_high, store_low,
 };
 pub use view::{GateView, Hand, Subject};

@@ -6,9 +6,9 @@ compare_exchange-requires g c = let w = c.requires in rw (c.index.ensures.at, c.
     (claims _ _ _ _ _ g.met.R.Frame.law _ w.place _ w.empty w.seated w.looked w.free)
 
 pub returns-clause-finds : goal.returns-clause-finds
-returns-clause-finds g c = (c.compare_exchange.ensures.2.1 c.args.round c.args.gate
+returns-clause-finds g c = (c.compare_exchange.ensures.2.1 c.args.at.round c.args.at.gate
     c.requires.place.inside c.index.ensures.at).0
 
 pub returns-clause-found : goal.returns-clause-found
-returns-clause-found g c = (c.compare_exchange.ensures.2.1 c.args.round c.args.gate
+returns-clause-found g c = (c.compare_exchange.ensures.2.1 c.args.at.round c.args.at.gate
     c.requires.place.inside c.index.ensures.at).1

@@ -5,4 +5,4 @@ use Rattle.gc_gates.proofs.steps.load_high.Goals as goal
 pub load-requires : goal.load-requires
 load-requires g c = rw c.index.ensures.at
     (loads_half _ _ _ _ _ g.met.R.Frame.law _ c.requires.place 1 (omega arith)
-    (λ s o. (o.1.cells c.args.round c.args.gate).high))
+    (λ s o. (o.1.cells c.args.at.round c.args.at.gate).high))

@@ -6,4 +6,4 @@ load-requires g c = rw c.index.ensures.at (loads_state _ _ _ _ _ g.met.R.Frame.l
 
 pub returns-clause-finds : goal.returns-clause-finds
 returns-clause-finds g c =
-    (c.load.ensures.2.1 c.args.round c.args.gate c.requires.inside c.index.ensures.at).0
+    (c.load.ensures.2.1 c.args.at.round c.args.at.gate c.requires.inside c.index.ensures.at).0
