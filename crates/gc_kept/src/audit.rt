@@ -12,35 +12,30 @@ use std::alloc::Global;
 
 impl KeptGarbling {
     /// Compares a garbled file with the garbling, as [`gc_audit::audit_garbled`] does: the version of the file, and
-    /// what is found. It refuses a garbling whose AND gates aren't numbered from 0 on (60).
+    /// what is found. It refuses a garbling whose AND gates aren't numbered from 0 on (60), and one of a circuit that
+    /// had no digest (68).
     pub fn audit(&self, alloc: Global, file: &[u8]) -> Result<(Version, GarbledAudit), KeptFault>
         ensures ok { IfOk result (λ found. IsAuditOf self.now file.now found.0 found.1) }
         ensures fault { IfErr result (HasGarbledAuditFault self.now file.now) }
     {
-        if !self.is_from_zero() {
-            return Err(KeptFault::BadArgument);
-        }
+        let digest = self.file_digest()?;
         self.law_garbled();
         let file = read_garbled(alloc, file)?;
         let circuit = self.circuit.circuit();
-        let digest = self.circuit.digest();
         let found = audit_garbled(circuit, digest, &self.garbling, self.offset, &file);
         Ok((file.version(), found))
     }
 
     /// Compares a label file with the garbling, as [`gc_audit::audit_labels_with_offset`] does: the index that is in
-    /// the file, and what is found. It refuses a garbling whose AND gates aren't numbered from 0 on (60).
+    /// the file, and what is found.
     pub fn audit_labels(
         &self,
         alloc: Global,
         file: &[u8],
     ) -> Result<(u32, LabelsVerdict<Global>), KeptFault>
         ensures ok { IfOk result (λ found. IsLabelsAuditOf self.now file.now found.0 found.1) }
-        ensures fault { IfErr result (HasLabelsAuditFault self.now file.now) }
+        ensures fault { IfErr result (HasLabelsAuditFault file.now) }
     {
-        if !self.is_from_zero() {
-            return Err(KeptFault::BadArgument);
-        }
         self.law_garbled();
         let file = read_labels(alloc, file)?;
         let circuit = self.circuit.circuit();

@@ -31,9 +31,9 @@ impl KeptCircuit {
         outputs: &mut [u8],
     ) -> Result<(), KeptFault>
         ensures ok { OnOk result
-            (AreEvaluatedTo self.now rows.now first labels.now outputs.old outputs.new) }
+            (AreEvaluatedTo self.now.netlist rows.now first labels.now outputs.old outputs.new) }
         ensures fault { IfErr result
-            (HasLabelsEvalFault self.now rows.now first labels.now (length outputs.old)) }
+            (HasLabelsEvalFault self.now.netlist rows.now first labels.now (length outputs.old)) }
         ensures unwritten { OnErr result (outputs.new ≡ outputs.old) }
     {
         let circuit = self.circuit();

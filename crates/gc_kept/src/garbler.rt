@@ -36,15 +36,15 @@ impl Model for KeptGarbler {
 
     ghost Value = { GarblerWith };
 
-    ghost view = { λ g. record { circuit = g.circuit; garbler = g.garbler } };
+    ghost view = { λ g. record { circuit = g.circuit.netlist; garbler = g.garbler } };
 
-    ghost invariant = { λ g. IsGarblerOf g.circuit g.garbler };
+    ghost invariant = { λ g. IsGarblerOf g.circuit.netlist g.garbler };
 }
 
 impl KeptCircuit {
     /// Begins to garble the circuit under a seed, as [`KeptCircuit::garble`] garbles it.
     pub fn begin_garbling(&self, alloc: Global, seed: &[u8; 32]) -> Result<KeptGarbler, KeptFault>
-        ensures ok { IfOk result (IsBegunUnder self.now seed.now) }
+        ensures ok { IfOk result (IsBegunUnder self.now.netlist seed.now) }
         ensures fault { IfErr result IsWantOfMemory }
     {
         let seed = Seed::from_bytes(*seed);
@@ -66,9 +66,9 @@ impl KeptCircuit {
         zero_labels: &[u8],
         first: u64,
     ) -> Result<KeptGarbler, KeptFault>
-        ensures ok { IfOk result (IsBegunFrom self.now offset.now zero_labels.now first) }
+        ensures ok { IfOk result (IsBegunFrom self.now.netlist offset.now zero_labels.now first) }
         ensures fault { IfErr result
-            (HasFromLabelsFault self.now offset.now zero_labels.now first) }
+            (HasFromLabelsFault self.now.netlist offset.now zero_labels.now first) }
     {
         let given = self.given(alloc, offset, zero_labels, first)?;
         let circuit = self.circuit();

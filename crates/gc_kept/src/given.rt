@@ -34,11 +34,11 @@ impl KeptCircuit {
         ensures offset { IfOk result (λ g. g.offset ≡ label_of_bytes offset.now) }
         ensures odd { IfOk result (λ g. IsTrue (colour g.offset)) }
         ensures first { IfOk result (λ g. g.first ≡ first) }
-        ensures room { IfOk result (λ g. first + and_count self.now ≤ 2 ^ 62) }
+        ensures room { IfOk result (λ g. first + and_count self.now.netlist ≤ 2 ^ 62) }
         ensures labels { IfOk result (λ g. AreLabels zero_labels.now g.labels.items) }
-        ensures count { IfOk result (λ g. length g.labels.items ≡ input_wires self.now) }
+        ensures count { IfOk result (λ g. length g.labels.items ≡ input_wires self.now.netlist) }
         ensures fault { IfErr result
-            (HasFromLabelsFault self.now offset.now zero_labels.now first) }
+            (HasFromLabelsFault self.now.netlist offset.now zero_labels.now first) }
     {
         let circuit = self.circuit();
         if zero_labels.len() != LABEL * circuit.input_wires() as usize {

@@ -1,8 +1,8 @@
 //! Circuits, garblings and jobs that own their circuit, so callers may free them in any order: what a library for other
 //! languages hands out. Bits are bytes here, 0 and 1, and files are bytes in memory.
 //!
-//! A [`KeptCircuit`] has its digest with it. A [`KeptGarbling`] and a [`KeptJob`] share their circuit. A garbling is
-//! made under a seed, or from an offset and labels of the caller's; circuits that follow one another are garbled and
+//! A [`KeptCircuit`] has its digest once that is taken. A [`KeptGarbling`] and a [`KeptJob`] share their circuit. A
+//! garbling is made under a seed, or from an offset and labels of the caller's; circuits that follow one another are garbled and
 //! evaluated from labels to labels. A [`KeptGarbler`] gives its row pairs in pieces, and a [`KeptEvaluator`] takes them so.
 #![tactic(auto)]
 
@@ -47,4 +47,5 @@ pub use garblings::write_many;
 pub use held::Held;
 pub use job::KeptJob;
 pub use jobs::evaluate_list;
+pub use many::Pace;
 pub use version::version_of;

@@ -23,8 +23,8 @@ fn begin(
     labels: &[u8],
     slot: &mut Slot,
 ) -> Result<(), KeptFault>
-    ensures ok { OnOk result (HoldsBegunOn circuit.now first labels.now slot.new) }
-    ensures fault { IfErr result (HasBeginFault circuit.now first labels.now) }
+    ensures ok { OnOk result (HoldsBegunOn circuit.now.netlist first labels.now slot.new) }
+    ensures fault { IfErr result (HasBeginFault circuit.now.netlist first labels.now) }
     ensures kept { OnErr result (slot.new ≡ slot.old) }
 {
     let evaluator = circuit.begin_evaluating(alloc, first, labels)?;

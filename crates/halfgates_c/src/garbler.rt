@@ -25,7 +25,7 @@ fn begin(
     seed: &[u8; 32],
     slot: &mut Slot,
 ) -> Result<(), KeptFault>
-    ensures ok { OnOk result (HoldsBegunUnder circuit.now seed.now slot.new) }
+    ensures ok { OnOk result (HoldsBegunUnder circuit.now.netlist seed.now slot.new) }
     ensures fault { IfErr result IsWantOfMemory }
     ensures kept { OnErr result (slot.new ≡ slot.old) }
 {
@@ -66,9 +66,9 @@ fn begin_from(
     slot: &mut Slot,
 ) -> Result<(), KeptFault>
     ensures ok { OnOk result
-        (HoldsBegunFrom circuit.now offset.now zero_labels.now first slot.new) }
+        (HoldsBegunFrom circuit.now.netlist offset.now zero_labels.now first slot.new) }
     ensures fault { IfErr result
-        (HasFromLabelsFault circuit.now offset.now zero_labels.now first) }
+        (HasFromLabelsFault circuit.now.netlist offset.now zero_labels.now first) }
     ensures kept { OnErr result (slot.new ≡ slot.old) }
 {
     let garbler = circuit.begin_garbling_from(alloc, offset, zero_labels, first)?;

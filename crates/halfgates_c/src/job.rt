@@ -1,12 +1,12 @@
 //! Jobs.
 
-ghost use Rattle.std.specs.Prelude.{◌≡◌, ◌≢◌, OnOk, OnErr, IfErr, pos, length};
+ghost use Rattle.std.specs.Prelude.{◌≡◌, ◌≢◌, IfErr, IsTrue, OnErr, OnOk, length, pos};
 ghost use Rattle.core.specs.Ptr.{as_mut_ptr};
 ghost use denote.RawPtr.{Testable};
-ghost use Rattle.gc_kept.specs.Job.{HasKeptJobFault, AreEvaluated, HasEvaluationFault};
+ghost use Rattle.gc_kept.specs.Job.{HasBindingFault, HasKeptJobFault, AreEvaluated, HasEvaluationFault};
 ghost use Rattle.gc_kept.specs.Labels.{AreJobLabels, HasJobLabelsFault};
 ghost use Rattle.halfgates_c.specs.Answers.{Answers};
-ghost use Rattle.halfgates_c.specs.Holding.{OfCircuit, OfJob};
+ghost use Rattle.halfgates_c.specs.Holding.{OfDigested, OfJob};
 ghost use Rattle.halfgates_c.specs.Reading.{HoldsJob};
 
 use crate::code::{NULL_POINTER, code_of};
@@ -25,9 +25,11 @@ fn bind(
     lengths: &[usize],
     slot: &mut Slot,
 ) -> Result<(), KeptFault>
+    ensures digest { OnOk result (IsTrue circuit.now.has_digest) }
     ensures ok { OnOk result
-        (HoldsJob circuit.now garbled.now labels.now lengths.now slot.new) }
-    ensures fault { IfErr result (HasKeptJobFault circuit.now garbled.now labels.now lengths.now) }
+        (HoldsJob circuit.now.netlist garbled.now labels.now lengths.now slot.new) }
+    ensures fault { IfErr result
+        (HasBindingFault circuit.now garbled.now labels.now lengths.now) }
     ensures kept { OnErr result (slot.new ≡ slot.old) }
 {
     let job = circuit.bind(alloc, garbled, labels, lengths)?;
@@ -45,7 +47,7 @@ pub extern "C" fn halfgates_job_bind(
     job: &mut Slot,
 ) -> i32
     requires job { Testable (as_mut_ptr job) }
-    ensures answer { OfCircuit circuit.old.held result (λ c.
+    ensures answer { OfDigested circuit.old.held result (λ c.
         Answers result (HoldsJob c garbled.now labels.now lengths.now job.new)
         (HasKeptJobFault c garbled.now labels.now lengths.now)) }
     ensures back { circuit.new ≡ circuit.old }
