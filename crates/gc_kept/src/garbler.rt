@@ -12,6 +12,7 @@ use crate::both::{labels_of, put_colours, write_both};
 use crate::chunk::{CHUNK, NO_ROWS};
 use crate::circuit::KeptCircuit;
 use crate::fault::KeptFault;
+use crate::given::StartBytes;
 use crate::label_bytes::write_rows;
 use crate::room::has_room;
 use crate::values::sum_of;
@@ -62,15 +63,14 @@ impl KeptCircuit {
     pub fn begin_garbling_from(
         &self,
         alloc: Global,
-        offset: &[u8; 16],
-        zero_labels: &[u8],
-        first: u64,
+        start: StartBytes<'_>,
     ) -> Result<KeptGarbler, KeptFault>
-        ensures ok { IfOk result (IsBegunFrom self.now.netlist offset.now zero_labels.now first) }
-        ensures fault { IfErr result
-            (HasFromLabelsFault self.now.netlist offset.now zero_labels.now first) }
+        ensures ok { IfOk result (IsBegunFrom self.now.netlist
+            start.entry.offset.now start.entry.zero_labels.now start.entry.first) }
+        ensures fault { IfErr result (HasFromLabelsFault self.now.netlist
+            start.entry.offset.now start.entry.zero_labels.now start.entry.first) }
     {
-        let given = self.given(alloc, offset, zero_labels, first)?;
+        let given = self.given(alloc, start)?;
         let circuit = self.circuit();
         let Ok(garbler) = StreamingGarbler::begin(
             alloc,

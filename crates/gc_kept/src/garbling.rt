@@ -10,6 +10,7 @@ ghost use Rattle.gc_kept.specs.Labels.{HasFromLabelsFault, IsFromLabels};
 use crate::bits::bit_byte;
 use crate::circuit::KeptCircuit;
 use crate::fault::KeptFault;
+use crate::given::StartBytes;
 use gc_half::{FirstAnd, Garbling, encode, garble_from, garble_one_thread};
 use gc_label::{Label, Offset, Seed, offset};
 use std::alloc::Global;
@@ -71,15 +72,14 @@ impl KeptCircuit {
     pub fn garble_from(
         &self,
         alloc: Global,
-        offset: &[u8; 16],
-        zero_labels: &[u8],
-        first: u64,
+        start: StartBytes<'_>,
     ) -> Result<KeptGarbling, KeptFault>
-        ensures ok { IfOk result (IsFromLabels self.now offset.now zero_labels.now first) }
-        ensures fault { IfErr result
-            (HasFromLabelsFault self.now.netlist offset.now zero_labels.now first) }
+        ensures ok { IfOk result (IsFromLabels self.now
+            start.entry.offset.now start.entry.zero_labels.now start.entry.first) }
+        ensures fault { IfErr result (HasFromLabelsFault self.now.netlist
+            start.entry.offset.now start.entry.zero_labels.now start.entry.first) }
     {
-        let given = self.given(alloc, offset, zero_labels, first)?;
+        let given = self.given(alloc, start)?;
         let circuit = self.circuit();
         let Ok(garbling) = garble_from(alloc, circuit, given.offset, &given.labels, given.first)
         else {

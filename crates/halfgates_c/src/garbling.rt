@@ -14,7 +14,7 @@ use crate::code::{NULL_POINTER, code_of};
 use crate::handle::{Handle, on_held};
 use crate::null::is_null;
 use crate::slot::Slot;
-use gc_kept::{Held, KeptCircuit, KeptFault};
+use gc_kept::{Held, KeptCircuit, KeptFault, StartBytes};
 use std::alloc::Global;
 
 /// Garbles a circuit, and hands the garbling out.
@@ -59,18 +59,16 @@ pub extern "C" fn halfgates_garble(
 fn garble_from(
     alloc: Global,
     circuit: &KeptCircuit,
-    offset: &[u8; 16],
-    zero_labels: &[u8],
-    first: u64,
+    start: StartBytes<'_>,
     slot: &mut Slot,
 ) -> Result<(), KeptFault>
-    ensures ok { OnOk result
-        (HoldsGarblingFrom circuit.now offset.now zero_labels.now first slot.new) }
-    ensures fault { IfErr result
-        (HasFromLabelsFault circuit.now.netlist offset.now zero_labels.now first) }
+    ensures ok { OnOk result (HoldsGarblingFrom circuit.now
+        start.entry.offset.now start.entry.zero_labels.now start.entry.first slot.new) }
+    ensures fault { IfErr result (HasFromLabelsFault circuit.now.netlist
+        start.entry.offset.now start.entry.zero_labels.now start.entry.first) }
     ensures kept { OnErr result (slot.new ≡ slot.old) }
 {
-    let garbling = circuit.garble_from(alloc, offset, zero_labels, first)?;
+    let garbling = circuit.garble_from(alloc, start)?;
     slot.hand_out(alloc, Held::Garbling(garbling))
 }
 
@@ -95,8 +93,13 @@ pub extern "C" fn halfgates_garble_from(
     if is_null(offset) || is_null(garbling) {
         return NULL_POINTER;
     }
+    let start = StartBytes {
+        offset,
+        zero_labels,
+        first,
+    };
     on_held!(circuit, Circuit(circuit) => {
-        code_of(garble_from(alloc, circuit, offset, zero_labels, first, garbling))
+        code_of(garble_from(alloc, circuit, start, garbling))
     })
 }
 

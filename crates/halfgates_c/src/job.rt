@@ -13,26 +13,24 @@ use crate::code::{NULL_POINTER, code_of};
 use crate::handle::{Handle, on_held};
 use crate::null::is_null;
 use crate::slot::Slot;
-use gc_kept::{Held, KeptCircuit, KeptFault};
+use gc_kept::{Held, JobFiles, KeptCircuit, KeptFault};
 use std::alloc::Global;
 
 /// Binds files to a job of a circuit, and hands it out.
 fn bind(
     alloc: Global,
     circuit: &KeptCircuit,
-    garbled: &[u8],
-    labels: &[u8],
-    lengths: &[usize],
+    files: JobFiles<'_>,
     slot: &mut Slot,
 ) -> Result<(), KeptFault>
     ensures digest { OnOk result (IsTrue circuit.now.has_digest) }
-    ensures ok { OnOk result
-        (HoldsJob circuit.now.netlist garbled.now labels.now lengths.now slot.new) }
-    ensures fault { IfErr result
-        (HasBindingFault circuit.now garbled.now labels.now lengths.now) }
+    ensures ok { OnOk result (HoldsJob circuit.now.netlist files.entry.garbled.now
+        files.entry.labels.now files.entry.lengths.now slot.new) }
+    ensures fault { IfErr result (HasBindingFault circuit.now
+        files.entry.garbled.now files.entry.labels.now files.entry.lengths.now) }
     ensures kept { OnErr result (slot.new ≡ slot.old) }
 {
-    let job = circuit.bind(alloc, garbled, labels, lengths)?;
+    let job = circuit.bind(alloc, files)?;
     slot.hand_out(alloc, Held::Job(job))
 }
 
@@ -56,9 +54,12 @@ pub extern "C" fn halfgates_job_bind(
     if is_null(job) {
         return NULL_POINTER;
     }
-    on_held!(circuit, Circuit(circuit) => {
-        code_of(bind(alloc, circuit, garbled, labels, lengths, job))
-    })
+    let files = JobFiles {
+        garbled,
+        labels,
+        lengths,
+    };
+    on_held!(circuit, Circuit(circuit) => code_of(bind(alloc, circuit, files, job)))
 }
 
 /// Frees a job. Null is allowed.

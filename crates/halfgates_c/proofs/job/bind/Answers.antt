@@ -17,5 +17,6 @@ wanting c garbled labels lengths (Err fault) taken so = inr (
 
 pub returns-clause-fault : goal.returns-clause-fault
 returns-clause-fault c =
-    wanting c.args.circuit.now c.args.garbled.now c.args.labels.now c.args.lengths.now
+    wanting c.args.circuit.now c.args.files.garbled.now c.args.files.labels.now
+    c.args.files.lengths.now
     c.hand_out.result c.in_ok-job.ensures.digest c.hand_out.ensures.fault

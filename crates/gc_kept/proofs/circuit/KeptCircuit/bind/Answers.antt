@@ -12,14 +12,14 @@ returns-in_err-garbled-clause-fault c =
       of_garbled c.in_err-garbled.field-0.0 c.in_err-garbled.ensures,
     ))
 
-pub returns-in_err-files-clause-fault : goal.returns-in_err-files-clause-fault
-returns-in_err-files-clause-fault c =
-    let p = err_from_is_err_and c.from_residual-in_err-files.result
-    c.from_residual-in_err-files.ensures.1 in
+pub returns-in_err-labels-clause-fault : goal.returns-in_err-labels-clause-fault
+returns-in_err-labels-clause-fault c =
+    let p = err_from_is_err_and c.from_residual-in_err-labels.result
+    c.from_residual-in_err-labels.ensures.1 in
     rw (p.1, p.2) (inr (
       c.in_ok-digest.ensures.ok.taken,
-      of_labels c.in_ok-garbled.garbled c.in_err-files.field-0.0 c.in_ok-garbled.ensures
-          c.in_err-files.ensures.fault,
+      of_labels c.in_ok-garbled.garbled c.in_err-labels.field-0.0 c.in_ok-garbled.ensures
+          c.in_err-labels.ensures.fault,
     ))
 
 pub returns-in_err-job-clause-fault : goal.returns-in_err-job-clause-fault
@@ -28,8 +28,8 @@ returns-in_err-job-clause-fault c =
     c.from_residual-in_err-job.ensures.1 in
     rw (p.1, p.2) (inr (
       c.in_ok-digest.ensures.ok.taken,
-      of_binding c.in_ok-garbled.garbled c.in_ok-files.files.items c.in_err-job.field-0.0
-          c.in_ok-garbled.ensures c.in_ok-files.ensures.ok
+      of_binding c.in_ok-garbled.garbled c.in_ok-labels.labels.items c.in_err-job.field-0.0
+          c.in_ok-garbled.ensures c.in_ok-labels.ensures.ok
           (λ other. rw (← c.circuit.ensures.same, ← c.deref.ensures.value)
           (c.in_err-job.ensures.err
           (rw c.circuit.ensures.same c.in_ok-digest.ensures.ok.digest_is) other)),
