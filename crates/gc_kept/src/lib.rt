@@ -35,6 +35,7 @@ mod values;
 mod version;
 mod wires;
 
+pub use audit::RowsAudit;
 pub use bits::write_bits;
 pub use circuit::KeptCircuit;
 pub use each::evaluate_each;
