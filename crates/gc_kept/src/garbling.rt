@@ -11,7 +11,7 @@ use crate::bits::bit_byte;
 use crate::circuit::KeptCircuit;
 use crate::fault::KeptFault;
 use crate::given::StartBytes;
-use gc_half::{FirstAnd, Garbling, encode, garble_from, garble_one_thread};
+use gc_half::{FirstAnd, Garbling, Start, encode, garble_from, garble_one_thread};
 use gc_label::{Label, Offset, Seed, offset};
 use std::alloc::Global;
 use std::marker::Model;
@@ -81,8 +81,12 @@ impl KeptCircuit {
     {
         let given = self.given(alloc, start)?;
         let circuit = self.circuit();
-        let Ok(garbling) = garble_from(alloc, circuit, given.offset, &given.labels, given.first)
-        else {
+        let start = Start {
+            offset: given.offset,
+            zero_labels: &given.labels,
+            first: given.first,
+        };
+        let Ok(garbling) = garble_from(alloc, circuit, start) else {
             return Err(KeptFault::Garbling);
         };
         Ok(KeptGarbling {
