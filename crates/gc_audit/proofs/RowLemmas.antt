@@ -1,8 +1,38 @@
--- The first row pair that differs, from the first mismatch.
-use Rattle.gc_audit.proofs.Names.{◌≡◌, List, slice_get, Some, get_or_from_slice_get, Netlist, Mismatch, IsFirstMismatch, row_at, DifferIn, IsAndGate, IsRowDifference}
+-- Row pairs in bytes, and the first that differs, from the first mismatch.
+use Rattle.gc_audit.proofs.Names.{◌≡◌, ℕ, zero, suc, ◌+◌, ◌*◌, ◌<◌, List, [], ◌∷◌, length, take, get_or, slice_get, Some, sym, ap, ◌∙◌, arith, slice_get_within, slice_get-get_or, get_or_from_slice_get, Netlist, Mismatch, IsFirstMismatch, row_at, DifferIn, IsAndGate, IsRowDifference}
+use Rattle.std.proofs.Common.{drop, flat_map, All, ◌++◌}
+use Rattle.std.proofs.lemmas.List.{take_at}
+use Rattle.std.proofs.Math.Seq.{drop-append-add}
 use Rattle.gc_half.specs.declared.garbling.RowPair.{RowPair}
+use Rattle.gc_file.specs.GarbledFile.{IsRowPair, row_bytes}
+use Rattle.gc_file.proofs.LabelBytesLemmas.{length-row_bytes}
+use Rattle.gc_file.proofs.ItemLemmas.{row_of, row_spelling}
 use Rattle.gc_audit.specs.declared.rows.RowDifference.{RowDifference}
 use Rattle.gc_audit.proofs.DifferenceLemmas.{differ_first}
+
+-- The bytes of the row pair at a place,
+bytes_at : (rows : List RowPair) (i : ℕ) (p : RowPair) → slice_get rows i ≡ Some p
+    → take 32 (drop (32 * i) (flat_map row_bytes rows)) ≡ row_bytes p
+bytes_at [] i p at = absurd (omega (arith, slice_get_within {A = RowPair} [] i p at))
+bytes_at (q ∷ rows) zero p at =
+    let same : q ≡ p = cc at in
+    take_at (row_bytes q) (flat_map row_bytes rows) 32 (length-row_bytes q) ∙ ap row_bytes same
+bytes_at (q ∷ rows) (suc i) p at =
+    let place : 32 * suc i ≡ length (row_bytes q) + 32 * i = omega (arith, length-row_bytes q) in
+    ap (λ n. take 32 (drop n (row_bytes q ++ flat_map row_bytes rows))) place
+    ∙ ap (take 32) (drop-append-add (row_bytes q) (flat_map row_bytes rows) (32 * i))
+    ∙ bytes_at rows i p at
+
+-- and the row pair that has these bytes.
+pub row_there : (rows : List RowPair) (i : ℕ) (row : RowPair) → All IsRowPair rows → IsRowPair row
+    → i < length rows → take 32 (drop (32 * i) (flat_map row_bytes rows)) ≡ row_bytes row
+    → slice_get rows i ≡ Some row
+row_there rows i row each is within read =
+    let there = get_or rows i row in
+    let at = slice_get-get_or rows i row within in
+    let same : there ≡ row = sym (row_spelling.back there (each i row within))
+    ∙ ap row_of (sym (bytes_at rows i there at) ∙ read) ∙ row_spelling.back row is in
+    at ∙ ap Some same
 
 module _ (c : Netlist) (filed garbled : List RowPair) (m : Mismatch)
     (is : IsFirstMismatch filed garbled m) where

@@ -1,14 +1,16 @@
 -- What an audit finds of a garbled file.
-use Rattle.std.specs.Prelude.{◌≡◌, ◌↔◌, ℕ, true, IsTrue, List, length, MatchOption, Some, None}
+use Rattle.std.specs.Prelude.{◌≡◌, ◌↔◌, ℕ, Bool, true, IsTrue, List, length, Option, MatchOption, Some, None}
 use Rattle.sha2.specs.Sha256.{sha256}
 use Rattle.gc_netlist.specs.Circuit.{Netlist, output_wires, and_count}
 use Rattle.gc_netlist.specs.Canon.{canonical_text}
 use Rattle.gc_label.specs.Seed.{offset_of}
+use Rattle.gc_half.specs.declared.garbling.RowPair.{RowPair}
 use Rattle.gc_half.specs.Garbling.{GarblingParts, decode_bits_of}
 use Rattle.gc_file.specs.GarbledFile.{GarbledParts, entry_count}
 use Rattle.gc_file.specs.Honest.{version_entries}
 use Rattle.gc_audit.specs.declared.garbled.GarbledAudit.{GarbledAudit}
 use Rattle.gc_audit.specs.declared.garbled.PartsAudit.{PartsAudit}
+use Rattle.gc_audit.specs.declared.rows.RowDifference.{RowDifference}
 use Rattle.gc_audit.specs.Difference.{DifferFirstAt}
 use Rattle.gc_audit.specs.Rows.{IsRowDifference}
 use Rattle.gc_audit.specs.Entries.{IsEntryDifference}
@@ -20,14 +22,22 @@ pub record AreCountsRight (c : Netlist) (file : GarbledParts) : Type 0 where
   pub decode_bits : length file.decode_bits ≡ output_wires c
   pub entries : length file.entries ≡ entry_count file.version (length file.decode_bits)
 
+-- What is found of row pairs by a garbling of the circuit: the first that differs, or that none does.
+abbrev pub IsRowsAudit : Netlist → GarblingParts → List RowPair → Option RowDifference → Type 0
+IsRowsAudit c g rows found = MatchOption found (rows ≡ g.rows) (IsRowDifference c rows g.rows)
+
+-- The same of decode bits.
+abbrev pub IsBitsAudit : GarblingParts → List Bool → Option ℕ → Type 0
+IsBitsAudit g bits found =
+    MatchOption found (bits ≡ decode_bits_of g) (DifferFirstAt bits (decode_bits_of g))
+
 -- What is found of the parts of a file whose counts are right, by a garbling of the circuit with this offset: of each
 -- the first difference, or that there is none. Version 1 has no entries, and so no difference in them.
 pub record IsPartsAuditWith (c : Netlist) (g : GarblingParts) (offset : ℕ) (file : GarbledParts)
     (audit : PartsAudit) : Type 0 where
   pub counts : AreCountsRight c file
-  pub rows : MatchOption audit.rows (file.rows ≡ g.rows) (IsRowDifference c file.rows g.rows)
-  pub bits : MatchOption audit.bits (file.decode_bits ≡ decode_bits_of g)
-      (DifferFirstAt file.decode_bits (decode_bits_of g))
+  pub rows : IsRowsAudit c g file.rows audit.rows
+  pub bits : IsBitsAudit g file.decode_bits audit.bits
   pub entries : let entries = version_entries file.version offset g in
       MatchOption audit.entries (file.entries ≡ entries) (IsEntryDifference file.entries entries)
 

@@ -7,10 +7,10 @@ ghost use Rattle.gc_file.specs.Written.{entry_pairs_of};
 ghost use Rattle.gc_file.specs.Honest.{version_entries};
 ghost use Rattle.gc_audit.specs.Entries.{DifferFirstIn, IsEntryDifference, named};
 
-use gc_circuit::Circuit;
+use crate::reference::Reference;
 use gc_file::{EntryPair, Version};
-use gc_half::{Garbling, four_output_entries, output_entry};
-use gc_label::{Label, Offset};
+use gc_half::{four_output_entries, output_entry};
+use gc_label::Label;
 use std::alloc::Allocator;
 
 /// The first entry that differs.
@@ -22,18 +22,10 @@ pub struct EntryDifference {
     pub colour: bool,
 }
 
-/// A garbling whose entries those of a file are compared with, its circuit, and its offset.
-#[derive(Drop)]
-pub(crate) struct Made<'a, A: Allocator, B: Allocator> {
-    pub circuit: &'a Circuit<A>,
-    pub garbling: &'a Garbling<B>,
-    pub offset: Offset,
-}
-
 /// The first of a file's entries that is not the garbling's. A file of version 1 has none. The caller ensures that the
 /// garbling fits the circuit, and that there are as many entry pairs as the version asks for.
 pub(crate) fn audit_entries<A: Allocator, B: Allocator>(
-    of: &Made<'_, A, B>,
+    of: &Reference<'_, A, B>,
     version: Version,
     filed: &[EntryPair],
 ) -> Option<EntryDifference>
@@ -52,7 +44,7 @@ pub(crate) fn audit_entries<A: Allocator, B: Allocator>(
 /// ones by themselves. The caller ensures that the garbling fits the circuit, and that there is an entry pair for each
 /// output.
 fn audit_pairs<A: Allocator, B: Allocator>(
-    of: &Made<'_, A, B>,
+    of: &Reference<'_, A, B>,
     entries: &[EntryPair],
 ) -> Option<EntryDifference>
     requires fits { FitsCircuit of.now.circuit.now of.now.garbling.now }
@@ -71,7 +63,7 @@ fn audit_pairs<A: Allocator, B: Allocator>(
 
 /// The first of the entries of four outputs that is not the garbling's, where those before them are.
 fn audit_four<A: Allocator, B: Allocator>(
-    of: &Made<'_, A, B>,
+    of: &Reference<'_, A, B>,
     entries: &[EntryPair],
     first: u32,
 ) -> Option<EntryDifference>
@@ -99,7 +91,7 @@ fn audit_four<A: Allocator, B: Allocator>(
 
 /// The first of the entries from this output on that is not the garbling's, where those before it are.
 fn audit_last<A: Allocator, B: Allocator>(
-    of: &Made<'_, A, B>,
+    of: &Reference<'_, A, B>,
     entries: &[EntryPair],
     first: u32,
 ) -> Option<EntryDifference>

@@ -7,18 +7,18 @@ ghost use Rattle.gc_netlist.specs.Circuit.{output_wires};
 ghost use Rattle.gc_half.specs.declared.garbling.RowPair.{RowPair};
 ghost use Rattle.gc_half.specs.Canonical.{garbling_of};
 ghost use Rattle.gc_half.specs.Comparing.{HasLabels, IsComparison};
-ghost use Rattle.gc_half.specs.Garbling.{decode_bits_of, FitsCircuit};
+ghost use Rattle.gc_half.specs.Garbling.{FitsCircuit};
 ghost use Rattle.gc_file.specs.GarbledFile.{GarbledParts, entry_count};
 ghost use Rattle.gc_file.specs.Honest.{honest_parts_with};
-ghost use Rattle.gc_audit.specs.Difference.{DifferFirstAt};
-ghost use Rattle.gc_audit.specs.Garbled.{AreCountsRight, IsPartsAudit, IsPartsAuditWith, IsGarbledAuditWith, honest_audit};
+ghost use Rattle.gc_audit.specs.Garbled.{AreCountsRight, IsBitsAudit, IsPartsAudit, IsPartsAuditWith, IsGarbledAuditWith, honest_audit};
 
-use crate::entries::{EntryDifference, Made, audit_entries};
+use crate::entries::{EntryDifference, audit_entries};
+use crate::reference::{Reference, SeedReference};
 use crate::rows::{RowDifference, first_mismatch, row_difference};
 use gc_circuit::Circuit;
 use gc_file::{EntryPair, Garbled, Version};
 use gc_half::{Garbling, Mismatch};
-use gc_label::{Offset, Seed, offset};
+use gc_label::offset;
 use std::alloc::Allocator;
 
 /// What an audit finds of a garbled file: in each part the first difference from the circuit's garbling, or none.
@@ -64,86 +64,88 @@ impl GarbledAudit {
 /// where the file holds what the garbled file of its version holds that is written of this garbling.
 ///
 /// The digest is the circuit's, from [`Circuit::digest`], and the garbling fits the circuit: these are the caller's
-/// conditions. The offset is that of the garbling, whose AND gates are numbered from 0 on. It allocates nothing.
+/// conditions. The AND gates of the garbling are numbered from 0 on. It allocates nothing.
 pub fn audit_garbled<A: Allocator, B: Allocator, C: Allocator>(
-    circuit: &Circuit<A>,
+    of: &Reference<'_, A, B>,
     digest: &[u8; 32],
-    garbling: &Garbling<B>,
-    offset: Offset,
     file: &Garbled<C>,
 ) -> GarbledAudit
-    requires digest { digest.now ≡ sha256 (canonical_text circuit.now) }
-    requires fits { FitsCircuit circuit.now garbling.now }
-    ensures audit { IsGarbledAuditWith circuit.now garbling.now offset file.now result }
-    ensures honest { (result ≡ honest_audit)
-        ↔ (file.now ≡ honest_parts_with file.now.version circuit.now garbling.now offset) }
+    requires digest { digest.now ≡ sha256 (canonical_text of.now.circuit.now) }
+    requires fits { FitsCircuit of.now.circuit.now of.now.garbling.now }
+    ensures audit { IsGarbledAuditWith of.now.circuit.now of.now.garbling.now of.now.offset
+        file.now result }
+    ensures honest { (result ≡ honest_audit) ↔ (file.now ≡ honest_parts_with file.now.version
+        of.now.circuit.now of.now.garbling.now of.now.offset) }
 {
-    circuit.law_lawful();
+    of.circuit.law_lawful();
     GarbledAudit {
         digest: file.digest() == *digest,
-        parts: audit_parts(circuit, garbling, offset, file),
+        parts: audit_parts(of, file),
     }
 }
 
 /// Compares the parts that are counted, where the counts are right.
 fn audit_parts<A: Allocator, B: Allocator, C: Allocator>(
-    circuit: &Circuit<A>,
-    garbling: &Garbling<B>,
-    offset: Offset,
+    of: &Reference<'_, A, B>,
     file: &Garbled<C>,
 ) -> Option<PartsAudit>
-    requires { FitsCircuit circuit.now garbling.now }
-    ensures { MatchOption result (¬ AreCountsRight circuit.now file.now)
-        (IsPartsAuditWith circuit.now garbling.now offset file.now) }
+    requires { FitsCircuit of.now.circuit.now of.now.garbling.now }
+    ensures { MatchOption result (¬ AreCountsRight of.now.circuit.now file.now)
+        (IsPartsAuditWith of.now.circuit.now of.now.garbling.now of.now.offset file.now) }
 {
-    if !are_counts_right(circuit, file) {
+    if !are_counts_right(of.circuit, file) {
         return None;
     }
-    let made = Made {
-        circuit,
-        garbling,
-        offset,
-    };
+    let first = first_mismatch(of.garbling.rows(), file.rows());
     Some(PartsAudit {
-        rows: row_difference(circuit, first_mismatch(garbling.rows(), file.rows())),
-        bits: audit_bits(garbling, file.decode_bits()),
-        entries: audit_entries(&made, file.version(), file.entries()),
+        rows: row_difference(of.circuit, first),
+        bits: audit_bits(of.garbling, file.decode_bits()),
+        entries: audit_entries(of, file.version(), file.entries()),
     })
 }
 
+/// The parts of a garbled file whose row pairs were compared with a garbling's before.
+#[derive(Drop)]
+pub struct ComparedFile<'a> {
+    pub version: Version,
+    /// The first row pair that is not the garbling's.
+    pub first: Option<Mismatch>,
+    pub decode_bits: &'a [bool],
+    pub entries: &'a [EntryPair],
+}
+
 /// What an audit finds of the parts of a garbled file, as [`audit_garbled`] does, where its row pairs were compared
-/// before: `first` is the first that is not the garbling's. `labels` has the garbling's zero labels.
+/// before.
 ///
-/// The counts of the file are right, as [`are_counts_right`] says, and it has this version, these decode bits and these
-/// entry pairs: these are the caller's conditions. It doesn't allocate.
+/// The counts of the file are right, as [`are_counts_right`] says, and the labels are those of the seed: these are the
+/// caller's conditions. It doesn't allocate.
 pub fn audit_compared<A: Allocator, B: Allocator>(
-    circuit: &Circuit<A>,
-    labels: &Garbling<B>,
-    seed: &Seed,
-    first: Option<Mismatch>,
-    version: Version,
-    decode_bits: &[bool],
-    entries: &[EntryPair],
+    of: &SeedReference<'_, A, B>,
+    compared: ComparedFile<'_>,
 ) -> PartsAudit
-    requires labels { HasLabels circuit.now seed.now labels.now }
-    requires first { (filed : List RowPair) × IsComparison circuit.now seed.now filed first }
-    requires bits { length decode_bits.now ≡ output_wires circuit.now }
-    requires entries { length entries.now ≡ entry_count version (length decode_bits.now) }
-    ensures { (file : GarbledParts) → AreCountsRight circuit.now file → file.version ≡ version
-        → file.decode_bits ≡ decode_bits.now → file.entries ≡ entries.now
-        → IsComparison circuit.now seed.now file.rows first
-        → IsPartsAudit circuit.now (garbling_of circuit.now seed.now) seed.now file result }
+    requires labels { HasLabels of.now.circuit.now of.now.seed.now of.now.labels.now }
+    requires first { (filed : List RowPair)
+        × IsComparison of.now.circuit.now of.now.seed.now filed compared.first }
+    requires bits { length compared.decode_bits.now ≡ output_wires of.now.circuit.now }
+    requires entries { length compared.entries.now
+        ≡ entry_count compared.version (length compared.decode_bits.now) }
+    ensures { (file : GarbledParts) → AreCountsRight of.now.circuit.now file
+        → file.version ≡ compared.version → file.decode_bits ≡ compared.decode_bits.now
+        → file.entries ≡ compared.entries.now
+        → IsComparison of.now.circuit.now of.now.seed.now file.rows compared.first
+        → IsPartsAudit of.now.circuit.now (garbling_of of.now.circuit.now of.now.seed.now)
+        of.now.seed.now file result }
 {
-    circuit.law_lawful();
-    let made = Made {
-        circuit,
-        garbling: labels,
-        offset: offset(seed),
+    of.circuit.law_lawful();
+    let reference = Reference {
+        circuit: of.circuit,
+        garbling: of.labels,
+        offset: offset(of.seed),
     };
     PartsAudit {
-        rows: row_difference(circuit, first),
-        bits: audit_bits(labels, decode_bits),
-        entries: audit_entries(&made, version, entries),
+        rows: row_difference(of.circuit, compared.first),
+        bits: audit_bits(of.labels, compared.decode_bits),
+        entries: audit_entries(&reference, compared.version, compared.entries),
     }
 }
 
@@ -156,11 +158,11 @@ pub fn are_counts_right<A: Allocator, B: Allocator>(circuit: &Circuit<A>, file: 
         && file.entries().len() == file.version().entry_count(circuit.output_wires()) as usize
 }
 
-/// The first output whose decode bit is not the garbling's. The caller ensures that there are as many.
-fn audit_bits<A: Allocator>(garbling: &Garbling<A>, bits: &[bool]) -> Option<u32>
+/// The first output whose decode bit is not the garbling's, which may have any first AND number. The caller ensures
+/// that there are as many decode bits as outputs. It allocates nothing.
+pub fn audit_bits<A: Allocator>(garbling: &Garbling<A>, bits: &[bool]) -> Option<u32>
     requires { length bits.now ≡ garbling.now.outputs }
-    ensures { MatchOption result (bits.now ≡ decode_bits_of garbling.now)
-        (DifferFirstAt bits.now (decode_bits_of garbling.now)) }
+    ensures { IsBitsAudit garbling.now bits.now result }
 {
     for i in 0..garbling.outputs() {
         if bits[i as usize] != garbling.decode_bit(i) {

@@ -1,15 +1,27 @@
 //! Comparing row pairs.
 
-ghost use Rattle.std.specs.Prelude.{◌≡◌, ◌<◌, List, IfSome, MatchOption, length, slice_get, Some};
+ghost use Rattle.std.specs.Prelude.{◌≡◌, ◌<◌, ◌≤◌, ◌+◌, ◌*◌, List, IfSome, MatchOption, All, length, flat_map, slice_get, Some};
 ghost use Rattle.gc_netlist.specs.declared.gate.Gate.{Gate};
 ghost use Rattle.gc_netlist.specs.Circuit.{and_count};
 ghost use Rattle.gc_half.specs.declared.garbling.RowPair.{RowPair};
 ghost use Rattle.gc_half.specs.Comparing.{IsFirstMismatch};
+ghost use Rattle.gc_half.specs.Garbling.{FitsCircuit};
+ghost use Rattle.gc_file.specs.GarbledFile.{IsRowPair, row_bytes};
+ghost use Rattle.gc_audit.specs.Garbled.{IsRowsAudit};
 ghost use Rattle.gc_audit.specs.Rows.{IsAndGate, DifferIn, IsRowDifference};
 
 use gc_circuit::Circuit;
-use gc_half::{Mismatch, RowPair};
+use gc_file::read_rows;
+use gc_file::sizes::PAIR;
+use gc_half::{Garbling, Mismatch, RowPair};
+use gc_label::Label;
 use std::alloc::Allocator;
+
+/// What is in the place of a row pair before it is read.
+const NO_ROWS: RowPair = RowPair {
+    generator: Label::ZERO,
+    evaluator: Label::ZERO,
+};
 
 /// Which rows of two row pairs differ.
 #[derive(Clone, Copy, PartialEq, Eq, Debug)]
@@ -33,6 +45,54 @@ pub struct RowDifference {
     pub wire: u32,
     /// Which of its rows differ.
     pub rows: DifferingRows,
+}
+
+/// The first AND gate whose row pair is not the garbling's, which may have any first AND number. The row pairs are
+/// bytes, 32 for each AND gate: the generator's row, and then the evaluator's. The caller ensures that the garbling
+/// fits the circuit, and that there is a row pair for each AND gate. It allocates nothing.
+pub fn audit_row_bytes<A: Allocator, B: Allocator>(
+    circuit: &Circuit<A>,
+    garbling: &Garbling<B>,
+    bytes: &[u8],
+) -> Option<RowDifference>
+    requires fits { FitsCircuit circuit.now garbling.now }
+    requires size { length bytes.now ≡ 32 * and_count circuit.now }
+    ensures { (rows : List RowPair) → bytes.now ≡ flat_map row_bytes rows → All IsRowPair rows
+        → IsRowsAudit circuit.now garbling.now rows result }
+{
+    row_difference(circuit, first_mismatch_in(garbling.rows(), bytes))
+}
+
+/// The first row pair in bytes that is not the garbling's. The caller ensures that there are as many.
+fn first_mismatch_in(garbled: &[RowPair], bytes: &[u8]) -> Option<Mismatch>
+    requires { length bytes.now ≡ 32 * length garbled.now }
+    ensures within { IfSome result (λ m. m.place < length garbled.now) }
+    ensures first { (rows : List RowPair) → bytes.now ≡ flat_map row_bytes rows
+        → All IsRowPair rows
+        → MatchOption result (rows ≡ garbled.now) (IsFirstMismatch rows garbled.now) }
+{
+    for place in 0..garbled.len() {
+        let given = row_in(bytes, place);
+        if given != garbled[place] {
+            return Some(Mismatch {
+                place,
+                given,
+                made: garbled[place],
+            });
+        }
+    }
+    None
+}
+
+/// The row pair at a place in bytes. The caller ensures that there is one.
+fn row_in(bytes: &[u8], place: usize) -> RowPair
+    requires { 32 * place + 32 ≤ length bytes.now }
+    ensures { (rows : List RowPair) → bytes.now ≡ flat_map row_bytes rows → All IsRowPair rows
+        → slice_get rows place ≡ Some result }
+{
+    let mut row = [NO_ROWS];
+    read_rows(&bytes[PAIR * place..PAIR * place + PAIR], &mut row);
+    row[0]
 }
 
 /// The first row pair of a file that is not the garbling's. The caller ensures that there are as many.

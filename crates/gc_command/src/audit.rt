@@ -16,7 +16,9 @@ use crate::digest::with_digest;
 use crate::evaluated_files::{read_garbled_file, read_label_files};
 use crate::fault::Fault;
 use crate::progress::{Progress, Stage};
-use gc_audit::{GarbledAudit, PartsAudit, are_counts_right, audit_compared};
+use gc_audit::{
+    ComparedFile, GarbledAudit, PartsAudit, SeedReference, are_counts_right, audit_compared,
+};
 use gc_circuit::{Circuit, Memory};
 use gc_disk::Files;
 use gc_file::{Garbled, LabelFile, Version};
@@ -184,14 +186,19 @@ fn garbling_and_parts<A: Allocator + Copy>(
     let version = file.version();
     let (rows, decode_bits, entries) = file.into_parts();
     let (garbling, first) = compare(alloc, circuit, seed, rows)?;
-    let parts = audit_compared(
+    let of = SeedReference {
         circuit,
-        &garbling,
+        labels: &garbling,
         seed,
-        first,
-        version,
-        &decode_bits,
-        &entries,
+    };
+    let parts = audit_compared(
+        &of,
+        ComparedFile {
+            version,
+            first,
+            decode_bits: &decode_bits,
+            entries: &entries,
+        },
     );
     Ok((garbling, Some(parts)))
 }

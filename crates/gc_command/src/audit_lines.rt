@@ -14,7 +14,7 @@ use crate::lines::{push_field, push_number, push_word};
 use crate::value_form::push_digits;
 use gc_audit::{
     DifferingRows, EntryDifference, GarbledAudit, LabelsVerdict, PartsAudit, RowDifference,
-    audit_labels,
+    SeedReference, audit_labels,
 };
 use gc_circuit::{Circuit, Memory};
 use gc_file::Version;
@@ -191,11 +191,15 @@ fn push_label_files<A: Allocator + Copy>(
         × AreLabelsFound circuit.now compared.now.seed compared.now.labels.items all_dealt added
         × (lines.new.items ≡ lines.old.items ++ added)) }
 {
-    let (garbling, seed) = (&compared.garbling, &compared.seed);
+    let of = SeedReference {
+        circuit,
+        labels: &compared.garbling,
+        seed: &compared.seed,
+    };
     let files = compared.labels.as_slice();
     let mut all_dealt = true;
     for file in files {
-        let verdict = audit_labels(alloc, circuit, garbling, seed, file)?;
+        let verdict = audit_labels(alloc, &of, file)?;
         push_verdict(lines, file.index(), &verdict)?;
         all_dealt &= is_dealt(&verdict);
     }
