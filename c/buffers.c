@@ -20,17 +20,18 @@ void free(void *block);
 #define CALL_AS(type, name, ...) \
     ({ extern type v2_##name, v3_##name; is_v3() ? v3_##name(__VA_ARGS__) : v2_##name(__VA_ARGS__); })
 #else
+#define is_v3() 0
 #define CALL_AS(type, name, ...) ({ extern type proved_##name; proved_##name(__VA_ARGS__); })
 #endif
 #define CALL(name, ...) CALL_AS(__typeof__(name), name, __VA_ARGS__)
 
-/* These take the size of each of their buffers. */
+/* These take the size of each of their buffers, and proved_garble_many whether two garblings are made side by side. */
 typedef int32_t proved_labels(const halfgates_garbling *garbling, uint32_t index, uint8_t *zero, size_t zero_size,
                               uint8_t *one, size_t one_size);
 typedef int32_t proved_garbler_labels(const halfgates_garbler *garbler, uint32_t index, uint8_t *zero, size_t zero_size,
                                       uint8_t *one, size_t one_size);
 typedef int32_t proved_garble_many(const halfgates_circuit *circuit, const uint8_t *seeds, size_t count,
-                                   halfgates_garbling **garblings, size_t garblings_count);
+                                   int32_t side_by_side, halfgates_garbling **garblings, size_t garblings_count);
 
 /* These write to the list of handles, and put it back. */
 typedef int32_t proved_evaluate_many(halfgates_job **jobs, size_t count, uint8_t *bits, size_t size);
@@ -83,6 +84,16 @@ int32_t halfgates_circuit_read(const uint8_t *text, size_t length, halfgates_cir
     if (!is_there(text, length))
         return HALFGATES_NULL_POINTER;
     return CALL(halfgates_circuit_read, text, length, circuit);
+}
+
+int32_t halfgates_circuit_read_without_digest(const uint8_t *text, size_t length, halfgates_circuit **circuit) {
+    if (!is_there(text, length))
+        return HALFGATES_NULL_POINTER;
+    return CALL(halfgates_circuit_read_without_digest, text, length, circuit);
+}
+
+int32_t halfgates_circuit_take_digest(halfgates_circuit *circuit) {
+    return CALL(halfgates_circuit_take_digest, LENT(circuit));
 }
 
 int32_t halfgates_circuit_share(const halfgates_circuit *circuit, halfgates_circuit **other) {
@@ -160,6 +171,17 @@ int32_t halfgates_circuit_from_gates(const halfgates_gate *gates, size_t count, 
         return HALFGATES_NULL_POINTER;
     return CALL(halfgates_circuit_from_gates, gates, count, wires, input_widths, input_values, output_widths,
                 output_values, circuit, place == NULL ? &unwanted : place);
+}
+
+int32_t halfgates_circuit_from_gates_without_digest(const halfgates_gate *gates, size_t count, uint32_t wires,
+                                                    const uint32_t *input_widths, size_t input_values,
+                                                    const uint32_t *output_widths, size_t output_values,
+                                                    halfgates_circuit **circuit, halfgates_place *place) {
+    halfgates_place unwanted;
+    if (!is_there(gates, count) || !is_there(input_widths, input_values) || !is_there(output_widths, output_values))
+        return HALFGATES_NULL_POINTER;
+    return CALL(halfgates_circuit_from_gates_without_digest, gates, count, wires, input_widths, input_values,
+                output_widths, output_values, circuit, place == NULL ? &unwanted : place);
 }
 
 int32_t halfgates_plain(const halfgates_circuit *circuit, const uint8_t *bits, size_t size, uint8_t *outputs,
@@ -259,6 +281,13 @@ int32_t halfgates_audit(const halfgates_garbling *garbling, const uint8_t *garbl
     return CALL(halfgates_audit, LENT(garbling), garbled, length, report);
 }
 
+int32_t halfgates_audit_rows(const halfgates_garbling *garbling, const uint8_t *rows, size_t rows_size,
+                             const uint8_t *decode_bits, size_t count, halfgates_rows_report *report) {
+    if (!is_there(rows, rows_size) || !is_there(decode_bits, count))
+        return HALFGATES_NULL_POINTER;
+    return CALL(halfgates_audit_rows, LENT(garbling), rows, rows_size, decode_bits, count, report);
+}
+
 int32_t halfgates_audit_labels(const halfgates_garbling *garbling, const uint8_t *labels, size_t length, uint8_t *bits,
                                size_t size, halfgates_labels_report *report) {
     if (!is_there(labels, length) || !is_there(bits, size))
@@ -270,7 +299,7 @@ int32_t halfgates_garble_many(const halfgates_circuit *circuit, const uint8_t *s
                               halfgates_garbling **garblings) {
     if (!is_there(seeds, count) || !is_there(garblings, count))
         return HALFGATES_NULL_POINTER;
-    return CALL_AS(proved_garble_many, halfgates_garble_many, LENT(circuit), seeds, count, garblings, count);
+    return CALL_AS(proved_garble_many, halfgates_garble_many, LENT(circuit), seeds, count, is_v3(), garblings, count);
 }
 
 int32_t halfgates_garble_from(const halfgates_circuit *circuit, const uint8_t offset[16], const uint8_t *zero_labels,

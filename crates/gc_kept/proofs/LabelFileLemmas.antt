@@ -1,5 +1,5 @@
 -- How many bytes label files have, and where values begin.
-use Rattle.std.proofs.Common.{◌≡◌, ℕ, ◌+◌, ◌-◌, ◌*◌, ◌<◌, ◌≤◌, Bool, false, List, [], ◌∷◌, ◌++◌, length, map, take, drop, get_or, slice_get, Some, refl, sym, ap, subst, ◌∙◌, arith}
+use Rattle.std.proofs.Common.{◌≡◌, ℕ, ◌+◌, ◌-◌, ◌*◌, ◌<◌, ◌≤◌, Bool, false, List, [], ◌∷◌, ◌++◌, length, map, take, drop, get_or, slice_get, Some, refl, sym, ap, ◌∙◌, arith}
 use Rattle.std.specs.List.{flat_map, range_with_len, slice_index, sum}
 use Rattle.std.proofs.lemmas.List.{length-append, length-take-le, take_more, get_or-take, get_or-drop}
 use Rattle.std.proofs.lemmas.List.FromFn.{get_or-map-range_with_len}
@@ -12,12 +12,8 @@ use Rattle.gc_file.specs.LabelFile.{label_file, label_parts_with, encoded_with}
 use Rattle.gc_file.proofs.DealLemmas.{encoded_with-append, length-encoded_with}
 use Rattle.gc_label.specs.Seed.{input_label_of}
 use Rattle.gc_half.specs.Evaluation.{encode}
-use Rattle.gc_file.specs.declared.parts.Version.{Version}
 use Rattle.gc_file.proofs.NumberLemmas.{length-number_bytes}
 use Rattle.gc_file.proofs.SizeLemmas.{length-flat_map}
-use Rattle.gc_kept.specs.declared.fault.KeptFault.{KeptFault}
-use Rattle.gc_kept.specs.Garbling.{GarblingWith}
-use Rattle.gc_kept.specs.Files.{HasRoomFault, HasFileFault, file_of}
 use Rattle.gc_kept.proofs.PieceLemmas.{value-fits}
 
 pub length-file : (index : ℕ) (labels : List ℕ)
@@ -33,15 +29,6 @@ length-file index labels =
       length-number_bytes (length labels),
       length-flat_map bytes_of_label 16 length-bytes_of_label labels,
     )
-
--- A buffer has too little room for a garbling's file of this size, which is reported.
-pub lacks_file_room : (g : GarblingWith) (version : Version) (size room written : ℕ)
-    (fault : KeptFault)
-    → g.first ≡ 0 → size ≡ length (file_of g version) → HasRoomFault size room fault
-    → written ≡ size
-    → HasFileFault g version room written fault
-lacks_file_room g version size room written fault from_zero same lacks reported =
-    rw lacks.0 (from_zero, (subst (λ n. room < n) same lacks.1, reported ∙ same))
 
 -- The wires of an input value are among all,
 pub input-fits : (c : Netlist) → IsLawful c → (g : GarblingParts) → length g.zero_labels ≡ c.wires

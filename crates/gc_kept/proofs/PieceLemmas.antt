@@ -17,6 +17,9 @@ use Rattle.gc_file.proofs.LabelBytesLemmas.{length-row_bytes}
 use Rattle.gc_file.specs.LabelFile.{label_magic, label_file}
 use Rattle.gc_file.specs.Number.{number_bytes}
 use Rattle.gc_file.proofs.SizeLemmas.{length-flat_map}
+use Rattle.gc_file.proofs.ItemLemmas.{items_from, items_spelled, row_of, row_spelling}
+use Rattle.std.proofs.lemmas.List.{get_or_default}
+use Rattle.gc_kept.specs.Labels.{AreRows}
 use Rattle.gc_kept.proofs.FileLemmas.{sum-within}
 use borrow.Rule.Slice.PartMut.{put_mid}
 use Rattle.std.proofs.Common.{◌-◌}
@@ -56,6 +59,14 @@ length-labels labels bytes is =
 pub length-rows : (rows : List RowPair) (bytes : List ℕ) → flat_map row_bytes rows ≡ bytes
     → 32 * length rows ≡ length bytes
 length-rows rows bytes is = sym (length-flat_map row_bytes 32 length-row_bytes rows) ∙ ap length is
+
+-- Bytes of a whole number of row pairs are some.
+pub rows_spelled : (bytes : List ℕ) (n : ℕ) → length bytes ≡ 32 * n
+    → ((i : ℕ) → get_or bytes i 0 < 256) → (rows : List RowPair) × AreRows bytes rows
+rows_spelled bytes n long small =
+    let is = items_spelled row_spelling n bytes long
+    (λ k d within. rw (← get_or_default bytes k 0 d within) (small k)) in
+    (items_from 32 row_of n bytes, record { spelled = sym is.0; each = is.1 })
 
 -- There is a bit for each label that is decoded.
 pub length-decoded : (bits : List Bool) (labels : List ℕ) → length bits ≡ length labels

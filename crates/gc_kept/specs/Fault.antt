@@ -4,7 +4,7 @@ use Rattle.gc_netlist.specs.Fault as read
 use Rattle.gc_file.specs.Fault as held
 use Rattle.gc_job.specs.Fault.{bind_code_of, eval_code_of}
 use Rattle.gc_kept.specs.declared.fault.KeptFault.{KeptFault}
-use Rattle.gc_kept.specs.declared.fault.KeptFault.TheVariants.{Circuit, BadDigit, WrongLength, Garbling, File, Binding, Evaluation, BadArgument, SmallBuffer, Memory, WrongLabel, WrongSize, Unfinished}
+use Rattle.gc_kept.specs.declared.fault.KeptFault.TheVariants.{Circuit, BadDigit, WrongLength, Garbling, File, Binding, Evaluation, BadArgument, SmallBuffer, Memory, WrongLabel, WrongSize, Unfinished, NoDigest}
 
 abbrev pub code_of : KeptFault → ℕ
 code_of (Circuit fault) = read.code_of fault
@@ -20,3 +20,4 @@ code_of Memory = 62
 code_of WrongLabel = 63
 code_of WrongSize = 66
 code_of Unfinished = 67
+code_of NoDigest = 68

@@ -1,5 +1,5 @@
 -- Files in the buffers of callers.
-use Rattle.std.specs.Prelude.{◌≡◌, ◌≢◌, ℕ, ◌<◌, ◌≤◌, Bool, List, ◌++◌, length, map, drop, slice_get, slice_index, Some}
+use Rattle.std.specs.Prelude.{◌≡◌, ◌⊎◌, ℕ, ◌<◌, ◌≤◌, Bool, List, ◌++◌, length, map, drop, slice_get, slice_index, Some}
 use Rattle.gc_netlist.specs.Circuit.{Netlist}
 use Rattle.gc_netlist.specs.Spelling.{bit_number}
 use Rattle.gc_label.specs.Seed.{offset_of, input_label_of}
@@ -9,9 +9,9 @@ use Rattle.gc_file.specs.LabelFile.{label_file, label_parts_with}
 use Rattle.gc_file.specs.Honest.{honest_parts_with}
 use Rattle.gc_job.specs.declared.fault.BindFault.TheVariants as bind
 use Rattle.gc_kept.specs.declared.fault.KeptFault.{KeptFault}
-use Rattle.gc_kept.specs.declared.fault.KeptFault.TheVariants.{Binding, BadArgument, SmallBuffer, Memory}
+use Rattle.gc_kept.specs.declared.fault.KeptFault.TheVariants.{Binding, SmallBuffer, Memory}
 use Rattle.gc_kept.specs.Bits.{HasBitsFault}
-use Rattle.gc_kept.specs.Garbling.{GarblingWith}
+use Rattle.gc_kept.specs.Garbling.{GarblingWith, HasFiles, HasNoFiles}
 
 -- The buffer begins with the file, and is as it was after it.
 abbrev pub IsFileAt : List ℕ → List ℕ → List ℕ → Type 0
@@ -35,18 +35,17 @@ HasWriteFault file room written _ = ⊥
 abbrev pub file_of : GarblingWith → Version → List ℕ
 file_of g version = garbled_file (honest_parts_with version g.circuit g.garbling g.offset)
 
--- The AND gates of the garbling are numbered from 0 on, and the buffer begins with its file, which has this length.
+-- The garbling has garbled files, and the buffer begins with that of this version, which has this length.
 pub record IsGarbledAt (g : GarblingWith) (version : Version) (old new : List ℕ) (written : ℕ)
     : Type 0 where
-  pub from_zero : g.first ≡ 0
+  pub has : HasFiles g
   pub file : IsFileAt (file_of g version) old new
   pub count : written ≡ length (file_of g version)
 
--- The fault of writing it: they are numbered from another number on, else that of writing a file.
+-- The fault of writing it: that of a garbling without files, else that of writing a file.
 abbrev pub HasFileFault : GarblingWith → Version → ℕ → ℕ → KeptFault → Type 0
-HasFileFault g version room written BadArgument = g.first ≢ 0
-HasFileFault g version room written fault =
-    (g.first ≡ 0) × HasWriteFault (file_of g version) room written fault
+HasFileFault g version room written fault = HasNoFiles g fault
+    ⊎ (HasFiles g × HasWriteFault (file_of g version) room written fault)
 
 -- The buffer begins with the label file of the bits that these bytes are, with an offset and zero labels of the input
 -- wires, and this is its length.

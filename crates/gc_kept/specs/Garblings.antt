@@ -1,37 +1,48 @@
 -- Lists of garblings.
-use Rattle.std.specs.Prelude.{◌≡◌, ◌<◌, ◌≤◌, ℕ, List, ◌++◌, length, flat_map, All}
+use Rattle.std.specs.Prelude.{◌≡◌, ◌⊎◌, ◌<◌, ◌≤◌, ℕ, IsTrue, List, ◌++◌, length, flat_map, All}
 use Rattle.sha2.specs.Sha256.{sha256}
 use Rattle.gc_file.specs.declared.parts.Version.{Version}
 use Rattle.gc_file.specs.GarbledFile.{body}
 use Rattle.gc_file.specs.Honest.{honest_parts_with}
 use Rattle.gc_kept.specs.declared.fault.KeptFault.{KeptFault}
-use Rattle.gc_kept.specs.declared.fault.KeptFault.TheVariants.{BadArgument, SmallBuffer, Memory}
+use Rattle.gc_kept.specs.declared.fault.KeptFault.TheVariants.{BadArgument, SmallBuffer, Memory, NoDigest}
 use Rattle.gc_kept.specs.Files.{IsFileAt, file_of}
-use Rattle.gc_kept.specs.Garbling.{GarblingWith}
+use Rattle.gc_kept.specs.Garbling.{GarblingWith, HasFiles}
 
--- The AND gates of each garbling are numbered from 0 on.
+-- The AND gates of each garbling are numbered from 0 on,
 abbrev pub AreFromZero : List GarblingWith → Type 0
 AreFromZero garblings = All (λ g. g.first ≡ 0) garblings
+
+-- and the circuit of each had its digest.
+abbrev pub HaveDigests : List GarblingWith → Type 0
+HaveDigests garblings = All (λ g. IsTrue g.has_digest) garblings
 
 -- The garbled files of the garblings, one after another.
 abbrev pub files_of : Version → List GarblingWith → List ℕ
 files_of version garblings = flat_map (λ g. file_of g version) garblings
 
--- The AND gates of each are numbered from 0 on, and the buffer begins with the files.
+-- Each garbling has garbled files, and the buffer begins with those of this version.
 pub record AreAllGarbledAt (garblings : List GarblingWith) (version : Version)
     (old new : List ℕ) : Type 0 where
-  pub from_zero : AreFromZero garblings
+  pub have : All HasFiles garblings
   pub files : IsFileAt (files_of version garblings) old new
 
--- The fault of writing them: the AND gates of some aren't numbered from 0 on, else the buffer has too little room for
--- all files. Memory may be missing instead.
+-- The fault where some garbling has none: the AND gates of some aren't numbered from 0 on, else a digest is missing.
+abbrev pub HaveNoFiles : List GarblingWith → KeptFault → Type 0
+HaveNoFiles garblings BadArgument = ¬ AreFromZero garblings
+HaveNoFiles garblings NoDigest = AreFromZero garblings × (¬ HaveDigests garblings)
+HaveNoFiles garblings _ = ⊥
+
+-- The buffer has too little room for all files. Memory may be missing instead.
+abbrev pub HasFilesFault : List ℕ → ℕ → KeptFault → Type 0
+HasFilesFault files room SmallBuffer = room < length files
+HasFilesFault files room Memory = length files ≤ room
+HasFilesFault files room _ = ⊥
+
+-- The fault of writing them: that of garblings without files, else that of writing these.
 abbrev pub HasAllGarbledFault : List GarblingWith → Version → ℕ → KeptFault → Type 0
-HasAllGarbledFault garblings version room BadArgument = ¬ AreFromZero garblings
-HasAllGarbledFault garblings version room SmallBuffer =
-    AreFromZero garblings × (room < length (files_of version garblings))
-HasAllGarbledFault garblings version room Memory =
-    AreFromZero garblings × (length (files_of version garblings) ≤ room)
-HasAllGarbledFault garblings version room _ = ⊥
+HasAllGarbledFault garblings version room fault = HaveNoFiles garblings fault
+    ⊎ (All HasFiles garblings × HasFilesFault (files_of version garblings) room fault)
 
 -- The bytes of a garbling's file before its trailer.
 abbrev pub body_of : Version → GarblingWith → List ℕ

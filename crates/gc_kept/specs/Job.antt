@@ -1,5 +1,5 @@
 -- Jobs of files in memory.
-use Rattle.std.specs.Prelude.{◌≢◌, ◌<◌, ◌≤◌, ℕ, Bool, List, map, Ok, Err}
+use Rattle.std.specs.Prelude.{◌≢◌, ◌⊎◌, ◌<◌, ◌≤◌, ℕ, Bool, IsTrue, List, map, Ok, Err}
 use Rattle.gc_netlist.specs.Circuit.{Netlist, output_wires}
 use Rattle.gc_netlist.specs.Spelling.{bit_number}
 use Rattle.gc_file.specs.GarbledFile.{GarbledParts, IsGarbledFile}
@@ -14,6 +14,7 @@ use Rattle.gc_job.specs.Binding.{FirstBindFault, IsBound}
 use Rattle.gc_job.specs.Evaluate.{IsEvaluated}
 use Rattle.gc_kept.specs.declared.fault.KeptFault.{KeptFault}
 use Rattle.gc_kept.specs.declared.fault.KeptFault.TheVariants.{File, Binding, Evaluation, SmallBuffer, Memory}
+use Rattle.gc_kept.specs.Circuit.{CircuitWith, HasNoDigest}
 use Rattle.gc_kept.specs.Files.{IsFileAt}
 use Rattle.gc_kept.specs.LabelFiles.{AreJoinedFiles, HasJoinedFilesFault}
 
@@ -38,6 +39,11 @@ pub data HasKeptJobFault (c : Netlist) (garbled labels lengths : List ℕ) : Kep
       → (fault ≢ bind.Memory → FirstBindFault c parts files fault)
       → HasKeptJobFault c garbled labels lengths (Binding fault)
   want : HasKeptJobFault c garbled labels lengths Memory
+
+-- The fault of binding them to a circuit: it has no digest, else that of the bytes.
+abbrev pub HasBindingFault : CircuitWith → (garbled labels lengths : List ℕ) → KeptFault → Type 0
+HasBindingFault c garbled labels lengths fault = HasNoDigest c fault
+    ⊎ (IsTrue c.has_digest × HasKeptJobFault c.netlist garbled labels lengths fault)
 
 -- The buffer begins with the output bits that an evaluation of the job decodes to.
 pub record AreEvaluated (job : JobParts) (old new : List ℕ) : Type 0 where

@@ -1,5 +1,5 @@
 -- Lists of jobs.
-use Rattle.std.specs.Prelude.{◌<◌, ◌≤◌, ℕ, Bool, List, map, flat_map, Err}
+use Rattle.std.specs.Prelude.{◌<◌, ◌≤◌, ℕ, Bool, List, length, map, flat_map, Err}
 use Rattle.std.specs.List.{sum_by}
 use Rattle.gc_netlist.specs.Circuit.{output_wires}
 use Rattle.gc_netlist.specs.Spelling.{bit_number}
@@ -19,11 +19,11 @@ pub record AreAllEvaluated (jobs : List JobParts) (old new : List ℕ) : Type 0 
   pub evaluated : AreEvaluated jobs each
   pub buffer : IsFileAt (map bit_number (flat_map (λ bits. bits) each)) old new
 
--- The fault of such an evaluation: the buffer has too little room, then that of the first job that has one. Memory may
--- be missing instead.
+-- The fault of such an evaluation: the buffer has too little room, then, where there is a job, that of the first that
+-- has one. Memory may be missing for the list instead.
 abbrev pub HasJobListFault : List JobParts → ℕ → KeptFault → Type 0
 HasJobListFault jobs room SmallBuffer = room < outputs_of jobs
 HasJobListFault jobs room (Evaluation fault) =
-    (outputs_of jobs ≤ room) × EvaluateTo jobs (Err fault)
+    (outputs_of jobs ≤ room) × (0 < length jobs) × EvaluateTo jobs (Err fault)
 HasJobListFault jobs room Memory = outputs_of jobs ≤ room
 HasJobListFault jobs room _ = ⊥

@@ -16,6 +16,7 @@ use Rattle.gc_kept.specs.declared.fault.KeptFault.{KeptFault}
 use Rattle.gc_kept.specs.declared.fault.KeptFault.TheVariants.{BadDigit, Binding, Circuit, Evaluation, BadArgument, SmallBuffer, Garbling, Memory, WrongSize}
 use Rattle.gc_netlist.specs.declared.fault.ReadFault.TheVariants as read
 use Rattle.gc_kept.specs.Bits.{HasBadDigit}
+use Rattle.gc_kept.specs.Circuit.{CircuitWith}
 use Rattle.gc_kept.specs.Files.{IsFileAt}
 use Rattle.gc_kept.specs.Garbling.{GarblingWith}
 
@@ -31,17 +32,18 @@ pub record AreRows (bytes : List ℕ) (rows : List RowPair) : Type 0 where
 
 -- The garbling of the circuit from the offset and the zero labels of the input wires that these bytes are, its AND
 -- gates numbered from `first` on.
-pub record IsFromLabels (c : Netlist) (offset zero_labels : List ℕ) (first : ℕ)
+pub record IsFromLabels (c : CircuitWith) (offset zero_labels : List ℕ) (first : ℕ)
     (g : GarblingWith) : Type 0 where
-  pub circuit : g.circuit ≡ c
+  pub circuit : g.circuit ≡ c.netlist
+  pub digest : g.has_digest ≡ c.has_digest
   pub offset_is : g.offset ≡ label_of_bytes offset
   pub odd : IsTrue (colour g.offset)
   pub first_is : g.first ≡ first
-  pub room : first + and_count c ≤ 2 ^ 62
+  pub room : first + and_count c.netlist ≤ 2 ^ 62
   pub labels : List ℕ
   pub labels_are : AreLabels zero_labels labels
-  pub count : length labels ≡ input_wires c
-  pub garbled : IsGarbledFrom g.offset (slice_index labels) first c g.garbling
+  pub count : length labels ≡ input_wires c.netlist
+  pub garbled : IsGarbledFrom g.offset (slice_index labels) first c.netlist g.garbling
 
 -- The fault of such a garbling: there are other labels than one for each input wire, then the offset has the colour 0,
 -- or an AND number is too large. Memory may be missing instead.

@@ -1,13 +1,12 @@
-//! Circuits with their digests, which several may hold.
+//! Circuits, with their digest or without, which several may hold.
 
-ghost use Rattle.std.specs.Prelude.{◌≡◌, ◌≢◌, ◌<◌, ◌^◌, Some, slice_get, IfOk, IfErr};
-ghost use Rattle.sha2.specs.Sha256.{sha256};
+ghost use Rattle.std.specs.Prelude.{◌≡◌, ◌≢◌, ◌<◌, ◌^◌, Some, slice_get, IfOk, IfErr, IsFalse, IsTrue};
 ghost use Rattle.gc_netlist.specs.Circuit.{IsLawful};
 ghost use Rattle.gc_netlist.specs.Canon.{canonical_text};
 ghost use Rattle.gc_netlist.specs.Spelling.{Spells};
 ghost use Rattle.gc_circuit.specs.Arrays.{IsFound, text_of};
 ghost use Rattle.gc_depth.specs.Order.{IsOrdered};
-ghost use Rattle.gc_kept.specs.Circuit.{HasCircuitTextFault, HasNoValue};
+ghost use Rattle.gc_kept.specs.Circuit.{HasCircuitTextFault, HasDigest, HasNoDigest, HasNoValue};
 
 use crate::fault::KeptFault;
 use gc_circuit::{Arrays, ArraysFault, Circuit, ReadFault};
@@ -16,51 +15,6 @@ use gc_job::BindFault;
 use std::alloc::{AllocError, Global};
 use std::marker::Model;
 use std::sync::Arc;
-
-/// A circuit and its digest.
-#[derive(Drop)]
-pub(crate) struct Digested {
-    circuit: Circuit<Global>,
-    digest: [u8; 32],
-}
-
-impl Model for Digested {
-    ghost use Rattle.std.specs.Prelude.{◌≡◌};
-    ghost use Rattle.sha2.specs.Sha256.{sha256};
-    ghost use Rattle.gc_netlist.specs.Circuit.{Netlist};
-    ghost use Rattle.gc_netlist.specs.Canon.{canonical_text};
-
-    ghost Value = { Netlist };
-
-    ghost view = { λ d. d.circuit };
-
-    ghost invariant = { λ d. d.digest ≡ sha256 (canonical_text d.circuit) };
-}
-
-impl Digested {
-    fn new(circuit: Circuit<Global>) -> Digested
-        ensures { result ≡ circuit }
-    {
-        let digest = circuit.digest();
-        Digested { circuit, digest }
-    }
-
-    /// The circuit.
-    pub(crate) fn circuit(&self) -> &Circuit<Global>
-        ensures same { result.now ≡ self.now }
-        ensures lawful { IsLawful self.now }
-    {
-        self.circuit.law_lawful();
-        &self.circuit
-    }
-
-    /// Its digest, which was taken when it was read.
-    pub(crate) fn digest(&self) -> &[u8; 32]
-        ensures { result.now ≡ sha256 (canonical_text self.now) }
-    {
-        &self.digest
-    }
-}
 
 /// The width at this index, or 42 where there is none.
 fn width_of(widths: &[u32], index: u32) -> Result<usize, KeptFault>
@@ -74,93 +28,136 @@ fn width_of(widths: &[u32], index: u32) -> Result<usize, KeptFault>
     }
 }
 
-/// A circuit with its digest. It is shared with its garblings and jobs, and dropped with the last holder.
+/// A circuit, and its digest where that was taken. The circuit is shared with its garblings and jobs, and dropped with
+/// the last holder.
 #[derive(Drop)]
 pub struct KeptCircuit {
-    shared: Arc<Digested, Global>,
+    shared: Arc<Circuit<Global>, Global>,
+    digest: Option<[u8; 32]>,
 }
 
 impl Model for KeptCircuit {
-    ghost use Rattle.gc_netlist.specs.Circuit.{Netlist};
+    ghost use Rattle.std.specs.Prelude.{◌≡◌, IfSome, is_some};
+    ghost use Rattle.sha2.specs.Sha256.{sha256};
+    ghost use Rattle.gc_netlist.specs.Canon.{canonical_text};
+    ghost use Rattle.gc_kept.specs.Circuit.{CircuitWith};
 
-    ghost Value = { Netlist };
+    ghost Value = { CircuitWith };
 
-    ghost view = { λ c. c.shared.value };
+    ghost view = { λ c. record { netlist = c.shared.value; has_digest = is_some c.digest } };
+
+    ghost invariant = { λ c. IfSome c.digest
+        (λ digest. digest ≡ sha256 (canonical_text c.shared.value)) };
 }
 
 impl KeptCircuit {
-    /// Reads a circuit, as [`Circuit::read`] does, and takes its digest.
+    /// Reads a circuit, as [`Circuit::read`] does, without its digest.
     pub fn read(alloc: Global, text: &[u8]) -> Result<KeptCircuit, KeptFault>
-        ensures ok { IfOk result (λ c. IsLawful c × Spells text.now c) }
+        ensures ok { IfOk result (λ c. IsLawful c.netlist × Spells text.now c.netlist) }
+        ensures without { IfOk result (λ c. IsFalse c.has_digest) }
         ensures fault { IfErr result (HasCircuitTextFault text.now) }
     {
         let circuit = Circuit::read(alloc, text)?;
-        let shared = Arc::new(alloc, Digested::new(circuit))?;
-        Ok(KeptCircuit { shared })
+        Ok(KeptCircuit {
+            shared: Arc::new(alloc, circuit)?,
+            digest: None,
+        })
     }
 
-    /// Makes a circuit of arrays, as [`Circuit::from_arrays`] does, and takes its digest.
+    /// Makes a circuit of arrays, as [`Circuit::from_arrays`] does, without its digest.
     pub fn from_arrays(alloc: Global, arrays: Arrays<'_>) -> Result<KeptCircuit, ArraysFault>
-        ensures ok { IfOk result (λ c. IsLawful c × (canonical_text c ≡ text_of arrays.entry)) }
+        ensures ok { IfOk result (λ c.
+            IsLawful c.netlist × (canonical_text c.netlist ≡ text_of arrays.entry)) }
+        ensures without { IfOk result (λ c. IsFalse c.has_digest) }
         ensures fault { IfErr result (λ e. e.fault ≢ ReadFault.Memory
             → IsFound (text_of arrays.entry) e.fault e.gate e.wire) }
     {
         let circuit = Circuit::from_arrays(alloc, arrays)?;
-        let shared = Arc::new(alloc, Digested::new(circuit))?;
-        Ok(KeptCircuit { shared })
+        Ok(KeptCircuit {
+            shared: Arc::new(alloc, circuit)?,
+            digest: None,
+        })
     }
 
-    /// The circuit with its gates in order of AND depth, as [`order_by_depth`] puts them, and its digest.
+    /// The circuit with its gates in order of AND depth, as [`order_by_depth`] puts them. Its digest is taken exactly
+    /// where this one's is.
     pub fn ordered(&self, alloc: Global) -> Result<KeptCircuit, KeptFault>
-        ensures ok { IfOk result (IsOrdered self.now) }
+        ensures ok { IfOk result (λ c. IsOrdered self.now.netlist c.netlist) }
+        ensures digest { IfOk result (λ c. c.has_digest ≡ self.now.has_digest) }
         ensures fault { IfErr result (λ fault. fault ≡ KeptFault.Memory) }
     {
         let Ok(ordered) = order_by_depth(alloc, self.circuit()) else {
             return Err(KeptFault::Memory);
         };
-        let shared = Arc::new(alloc, Digested::new(ordered))?;
-        Ok(KeptCircuit { shared })
+        let mut ordered = KeptCircuit {
+            shared: Arc::new(alloc, ordered)?,
+            digest: None,
+        };
+        if self.has_digest() {
+            ordered.take_digest();
+        }
+        Ok(ordered)
     }
 
     /// The circuit.
     pub fn circuit(&self) -> &Circuit<Global>
-        ensures same { result.now ≡ self.now }
-        ensures lawful { IsLawful self.now }
+        ensures same { result.now ≡ self.now.netlist }
+        ensures lawful { IsLawful self.now.netlist }
     {
-        self.shared.circuit()
+        self.shared.law_lawful();
+        &self.shared
     }
 
     /// How many wires the input value with this index has. It refuses an index without a value (42).
     pub(crate) fn input_width(&self, index: u32) -> Result<usize, KeptFault>
-        ensures ok { IfOk result (λ width. slice_get self.now.input_widths index ≡ Some width) }
+        ensures ok { IfOk result (λ width. slice_get self.now.netlist.input_widths index ≡ Some width) }
         ensures few { IfOk result (λ width. width < 2 ^ 32) }
-        ensures fault { IfErr result (HasNoValue self.now.input_widths index) }
+        ensures fault { IfErr result (HasNoValue self.now.netlist.input_widths index) }
     {
         width_of(self.circuit().input_widths(), index)
     }
 
     /// How many wires the output value with this index has. It refuses an index without a value (42).
     pub(crate) fn output_width(&self, index: u32) -> Result<usize, KeptFault>
-        ensures ok { IfOk result (λ width. slice_get self.now.output_widths index ≡ Some width) }
+        ensures ok { IfOk result (λ width. slice_get self.now.netlist.output_widths index ≡ Some width) }
         ensures few { IfOk result (λ width. width < 2 ^ 32) }
-        ensures fault { IfErr result (HasNoValue self.now.output_widths index) }
+        ensures fault { IfErr result (HasNoValue self.now.netlist.output_widths index) }
     {
         width_of(self.circuit().output_widths(), index)
     }
 
-    /// Its digest, which was taken when it was read.
-    pub fn digest(&self) -> &[u8; 32]
-        ensures { result.now ≡ sha256 (canonical_text self.now) }
+    /// Takes its digest, where it has none. It doesn't allocate.
+    pub fn take_digest(&mut self)
+        ensures netlist { self.new.netlist ≡ self.old.netlist }
+        ensures digest { IsTrue self.new.has_digest }
     {
-        self.shared.digest()
+        if !self.has_digest() {
+            self.digest = Some(self.circuit().digest());
+        }
     }
 
-    /// The circuit once more, for another to hold. Nothing is copied.
+    /// Whether it has its digest.
+    pub(crate) fn has_digest(&self) -> bool
+        ensures { result ≡ self.now.has_digest }
+    {
+        self.digest.is_some()
+    }
+
+    /// Its digest. It refuses a circuit that has none (68).
+    pub fn digest(&self) -> Result<&[u8; 32], KeptFault>
+        ensures ok { IfOk result (λ digest. HasDigest self.now digest.now) }
+        ensures fault { IfErr result (HasNoDigest self.now) }
+    {
+        self.digest.as_ref().ok_or(KeptFault::NoDigest)
+    }
+
+    /// The circuit once more, for another to hold, with its digest where it has one. The circuit isn't copied.
     pub fn again(&self) -> Result<KeptCircuit, AllocError>
         ensures { IfOk result (λ c. c ≡ self.now) }
     {
         Ok(KeptCircuit {
             shared: Arc::try_clone(&self.shared)?,
+            digest: self.digest,
         })
     }
 }

@@ -30,9 +30,9 @@ impl Model for KeptEvaluator {
 
     ghost Value = { EvaluatorWith };
 
-    ghost view = { λ e. record { circuit = e.circuit; evaluator = e.evaluator } };
+    ghost view = { λ e. record { circuit = e.circuit.netlist; evaluator = e.evaluator } };
 
-    ghost invariant = { λ e. IsEvaluatorOf e.circuit e.evaluator };
+    ghost invariant = { λ e. IsEvaluatorOf e.circuit.netlist e.evaluator };
 }
 
 impl KeptCircuit {
@@ -45,8 +45,8 @@ impl KeptCircuit {
         first: u64,
         labels: &[u8],
     ) -> Result<KeptEvaluator, KeptFault>
-        ensures ok { IfOk result (IsBegunOn self.now first labels.now) }
-        ensures fault { IfErr result (HasBeginFault self.now first labels.now) }
+        ensures ok { IfOk result (IsBegunOn self.now.netlist first labels.now) }
+        ensures fault { IfErr result (HasBeginFault self.now.netlist first labels.now) }
     {
         let circuit = self.circuit();
         if labels.len() != LABEL * circuit.input_wires() as usize {
@@ -66,9 +66,9 @@ impl KeptCircuit {
         first: FirstAnd,
         labels: &[u8],
     ) -> Result<KeptEvaluator, KeptFault>
-        requires labels { length labels.now ≡ 16 * input_wires self.now }
-        requires numbers { first + and_count self.now ≤ 2 ^ 62 }
-        ensures ok { IfOk result (IsBegunOn self.now first labels.now) }
+        requires labels { length labels.now ≡ 16 * input_wires self.now.netlist }
+        requires numbers { first + and_count self.now.netlist ≤ 2 ^ 62 }
+        ensures ok { IfOk result (IsBegunOn self.now.netlist first labels.now) }
         ensures fault { IfErr result (λ fault. fault ≡ KeptFault.Evaluation eval.Memory) }
     {
         let Ok(labels) = labels_from_bytes(alloc, labels) else {

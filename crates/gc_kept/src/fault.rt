@@ -38,6 +38,8 @@ pub enum KeptFault {
     WrongSize,
     /// Row pairs are left to be made, or to be used.
     Unfinished,
+    /// A circuit has no digest, which the call needs.
+    NoDigest,
 }
 
 impl KeptFault {
@@ -46,7 +48,7 @@ impl KeptFault {
     pub fn code(self) -> u32
         ensures code { result ≡ code_of self }
         ensures some { 0 < result }
-        ensures few { result < 68 }
+        ensures few { result < 69 }
     {
         match self {
             KeptFault::Circuit(fault) => fault.code(),
@@ -62,6 +64,7 @@ impl KeptFault {
             KeptFault::WrongLabel => 63,
             KeptFault::WrongSize => 66,
             KeptFault::Unfinished => 67,
+            KeptFault::NoDigest => 68,
         }
     }
 }

@@ -1,18 +1,20 @@
 //! Writing files to the buffers of callers.
 
-ghost use Rattle.std.specs.Prelude.{◌≡◌, ◌≢◌, Some, length, IfErr, OnOk, OnErr};
+ghost use Rattle.std.specs.Prelude.{◌≡◌, ◌≢◌, length, IfOk, IfErr, OnOk, OnErr};
+ghost use Rattle.sha2.specs.Sha256.{sha256};
 ghost use Rattle.gc_netlist.specs.Canon.{canonical_text};
-ghost use Rattle.gc_file.specs.Written.{IsWritten};
-ghost use Rattle.gc_file.specs.Honest.{IsFileSize, honest_parts_with, written_part};
+ghost use Rattle.gc_half.specs.Garbling.{FitsCircuit};
+ghost use Rattle.gc_file.specs.Honest.{IsFileSize};
 ghost use Rattle.gc_kept.specs.Files.{IsFileAt, IsWholeFileAt, HasRoomFault, HasWriteFault};
-ghost use Rattle.gc_kept.specs.Files.{IsGarbledAt, HasFileFault};
+ghost use Rattle.gc_kept.specs.Files.{IsGarbledAt, HasFileFault, file_of};
+ghost use Rattle.gc_kept.specs.Garbling.{HasFiles, HasNoFiles};
 
 use crate::circuit::KeptCircuit;
 use crate::fault::KeptFault;
 use crate::garbling::KeptGarbling;
 use crate::room::look_for_room;
 use gc_file::sizes::garbled_size;
-use gc_file::{GarbledSource, MemSink, Trailer, Version, WriteFault, write_garbled_file};
+use gc_file::{GarbledSource, MemSink, Trailer, Version, write_garbled_file};
 use std::alloc::Global;
 
 /// Copies a file to a buffer, whose end stays as it is, and reports the number of its bytes. Where the buffer is too
@@ -39,9 +41,9 @@ impl KeptCircuit {
         written: &mut usize,
     ) -> Result<(), KeptFault>
         ensures ok { OnOk result
-            (IsWholeFileAt (canonical_text self.now) buffer.old buffer.new written.new) }
+            (IsWholeFileAt (canonical_text self.now.netlist) buffer.old buffer.new written.new) }
         ensures fault { IfErr result
-            (HasWriteFault (canonical_text self.now) (length buffer.old) written.new) }
+            (HasWriteFault (canonical_text self.now.netlist) (length buffer.old) written.new) }
         ensures unwritten { OnErr result (buffer.new ≡ buffer.old) }
         ensures unreported { IfErr result (λ fault.
             fault ≢ KeptFault.SmallBuffer → written.new ≡ written.old) }
@@ -54,7 +56,7 @@ impl KeptCircuit {
 
     /// How many bytes the garbled file of a version has, for the circuit's garbling under any seed.
     pub fn garbled_size(&self, version: Version) -> u64
-        ensures { IsFileSize version self.now result }
+        ensures { IsFileSize version self.now.netlist result }
     {
         garbled_size(self.circuit(), version)
     }
@@ -62,8 +64,8 @@ impl KeptCircuit {
 
 impl KeptGarbling {
     /// Writes the garbled file of a version, and reports the number of its bytes. It refuses a garbling whose AND gates
-    /// aren't numbered from 0 on (60), and a buffer that is too small (61): then no file is made, and `written` is the
-    /// size that is needed. After another fault it is as it was.
+    /// aren't numbered from 0 on (60), one of a circuit that had no digest (68), and a buffer that is too small (61):
+    /// then no file is made, and `written` is the size that is needed. After another fault it is as it was.
     pub fn write(
         &self,
         alloc: Global,
@@ -79,38 +81,46 @@ impl KeptGarbling {
         ensures unreported { IfErr result (λ fault.
             fault ≢ KeptFault.SmallBuffer → written.new ≡ written.old) }
     {
-        if !self.is_from_zero() {
-            return Err(KeptFault::BadArgument);
-        }
-        self.law_garbled();
-        let size = self.circuit().garbled_size(version);
-        look_for_room(size as usize, buffer, written)?;
+        let source = self.source(version)?;
+        look_for_room(self.file_size(version), buffer, written)?;
         let mut sink = MemSink::new(alloc, None);
-        match self.write_to(&mut sink, version, Trailer::Written) {
+        match write_garbled_file(&mut sink, &source, Trailer::Written) {
             Ok(_) => copy_file(sink.bytes(), buffer, written),
             Err(_) => Err(KeptFault::Memory),
         }
     }
 
-    /// Writes the garbled file of a version to a sink, with its trailer or without.
-    pub(crate) fn write_to(
-        &self,
-        sink: &mut MemSink<Global>,
-        version: Version,
-        trailer: Trailer,
-    ) -> Result<u64, WriteFault>
-        ensures { let g = self.now in IsWritten
-            (written_part trailer (honest_parts_with version g.circuit g.garbling g.offset))
-            result (Some sink.old.bytes) (Some sink.new.bytes) }
+    /// How many bytes the garbled file of a version has.
+    pub(crate) fn file_size(&self, version: Version) -> usize
+        ensures { result ≡ length (file_of self.now version) }
     {
         self.law_garbled();
-        let source = GarbledSource {
+        self.circuit().garbled_size(version) as usize
+    }
+
+    /// What the garbled file of a version is written from. It refuses what [`KeptGarbling::file_digest`] refuses.
+    pub(crate) fn source(
+        &self,
+        version: Version,
+    ) -> Result<GarbledSource<'_, Global, Global>, KeptFault>
+        ensures has { OnOk result (HasFiles self.now) }
+        ensures version { IfOk result (λ source. source.version ≡ version) }
+        ensures circuit { IfOk result (λ source. source.circuit.now ≡ self.now.circuit) }
+        ensures digest { IfOk result (λ source.
+            source.digest.now ≡ sha256 (canonical_text self.now.circuit)) }
+        ensures garbling { IfOk result (λ source. source.garbling.now ≡ self.now.garbling) }
+        ensures offset { IfOk result (λ source. source.offset ≡ self.now.offset) }
+        ensures fits { OnOk result (FitsCircuit self.now.circuit self.now.garbling) }
+        ensures fault { IfErr result (HasNoFiles self.now) }
+    {
+        let digest = self.file_digest()?;
+        self.law_garbled();
+        Ok(GarbledSource {
             version,
             circuit: self.circuit.circuit(),
-            digest: self.circuit.digest(),
+            digest,
             garbling: &self.garbling,
             offset: self.offset,
-        };
-        write_garbled_file(sink, &source, trailer)
+        })
     }
 }

@@ -16,6 +16,17 @@ use std::alloc::Global;
 /// There is no memory for an evaluation.
 pub(crate) const NO_MEMORY: KeptFault = KeptFault::Evaluation(EvalFault::Memory);
 
+/// What is evaluated from labels to labels, as bytes.
+#[derive(Clone, Copy)]
+pub struct EvaluationBytes<'a> {
+    /// The row pairs of all AND gates, 32 bytes each.
+    pub rows: &'a [u8],
+    /// The number of the first AND gate.
+    pub first: u64,
+    /// The active labels of all input wires, 16 bytes each.
+    pub labels: &'a [u8],
+}
+
 impl KeptCircuit {
     /// Evaluates row pairs, 32 bytes for each AND gate, and an active label for each input wire, 16 bytes each, as
     /// [`evaluate_labels`](gc_half::evaluate_labels) does, and writes the active labels of the output wires to the
@@ -25,30 +36,28 @@ impl KeptCircuit {
     pub fn evaluate_labels(
         &self,
         alloc: Global,
-        rows: &[u8],
-        first: u64,
-        labels: &[u8],
+        given: EvaluationBytes<'_>,
         outputs: &mut [u8],
     ) -> Result<(), KeptFault>
-        ensures ok { OnOk result
-            (AreEvaluatedTo self.now rows.now first labels.now outputs.old outputs.new) }
-        ensures fault { IfErr result
-            (HasLabelsEvalFault self.now rows.now first labels.now (length outputs.old)) }
+        ensures ok { OnOk result (AreEvaluatedTo self.now.netlist given.entry.rows.now
+            given.entry.first given.entry.labels.now outputs.old outputs.new) }
+        ensures fault { IfErr result (HasLabelsEvalFault self.now.netlist given.entry.rows.now
+            given.entry.first given.entry.labels.now (length outputs.old)) }
         ensures unwritten { OnErr result (outputs.new ≡ outputs.old) }
     {
         let circuit = self.circuit();
         let and_gates = circuit.and_count();
-        if rows.len() != PAIR * and_gates as usize
-            || labels.len() != LABEL * circuit.input_wires() as usize
+        if given.rows.len() != PAIR * and_gates as usize
+            || given.labels.len() != LABEL * circuit.input_wires() as usize
         {
             return Err(KeptFault::WrongSize);
         }
-        let Some(first) = FirstAnd::new(first, and_gates) else {
+        let Some(first) = FirstAnd::new(given.first, and_gates) else {
             return Err(KeptFault::BadArgument);
         };
         has_room(LABEL * circuit.output_wires() as usize, outputs)?;
-        let mut evaluator = self.evaluator_on(alloc, first, labels)?;
-        evaluator.use_rows(rows);
+        let mut evaluator = self.evaluator_on(alloc, first, given.labels)?;
+        evaluator.use_rows(given.rows);
         evaluator.write_labels(outputs);
         Ok(())
     }

@@ -12,6 +12,7 @@ use crate::both::{labels_of, put_colours, write_both};
 use crate::chunk::{CHUNK, NO_ROWS};
 use crate::circuit::KeptCircuit;
 use crate::fault::KeptFault;
+use crate::given::StartBytes;
 use crate::label_bytes::write_rows;
 use crate::room::has_room;
 use crate::values::sum_of;
@@ -36,15 +37,15 @@ impl Model for KeptGarbler {
 
     ghost Value = { GarblerWith };
 
-    ghost view = { λ g. record { circuit = g.circuit; garbler = g.garbler } };
+    ghost view = { λ g. record { circuit = g.circuit.netlist; garbler = g.garbler } };
 
-    ghost invariant = { λ g. IsGarblerOf g.circuit g.garbler };
+    ghost invariant = { λ g. IsGarblerOf g.circuit.netlist g.garbler };
 }
 
 impl KeptCircuit {
     /// Begins to garble the circuit under a seed, as [`KeptCircuit::garble`] garbles it.
     pub fn begin_garbling(&self, alloc: Global, seed: &[u8; 32]) -> Result<KeptGarbler, KeptFault>
-        ensures ok { IfOk result (IsBegunUnder self.now seed.now) }
+        ensures ok { IfOk result (IsBegunUnder self.now.netlist seed.now) }
         ensures fault { IfErr result IsWantOfMemory }
     {
         let seed = Seed::from_bytes(*seed);
@@ -62,15 +63,14 @@ impl KeptCircuit {
     pub fn begin_garbling_from(
         &self,
         alloc: Global,
-        offset: &[u8; 16],
-        zero_labels: &[u8],
-        first: u64,
+        start: StartBytes<'_>,
     ) -> Result<KeptGarbler, KeptFault>
-        ensures ok { IfOk result (IsBegunFrom self.now offset.now zero_labels.now first) }
-        ensures fault { IfErr result
-            (HasFromLabelsFault self.now offset.now zero_labels.now first) }
+        ensures ok { IfOk result (IsBegunFrom self.now.netlist
+            start.entry.offset.now start.entry.zero_labels.now start.entry.first) }
+        ensures fault { IfErr result (HasFromLabelsFault self.now.netlist
+            start.entry.offset.now start.entry.zero_labels.now start.entry.first) }
     {
-        let given = self.given(alloc, offset, zero_labels, first)?;
+        let given = self.given(alloc, start)?;
         let circuit = self.circuit();
         let start = Start {
             offset: given.offset,

@@ -1,15 +1,16 @@
 //! Garblings that hold their circuit.
 
 ghost use Rattle.std.specs.Prelude.{◌≡◌, ◌↔◌, ◌<◌, Some, IsTrue, length, slice_get, IfOk, IfErr, OnOk, OnErr};
+ghost use Rattle.sha2.specs.Sha256.{sha256};
+ghost use Rattle.gc_netlist.specs.Canon.{canonical_text};
 ghost use Rattle.gc_label.specs.Label.{bytes_of_label};
-ghost use Rattle.gc_label.specs.Seed.{offset_of};
-ghost use Rattle.gc_half.specs.Garbling.{IsGarbled};
-ghost use Rattle.gc_kept.specs.Garbling.{IsWantOfMemory};
+ghost use Rattle.gc_kept.specs.Garbling.{HasFiles, HasNoFiles, IsGarblingUnder, IsWantOfMemory};
 ghost use Rattle.gc_kept.specs.Labels.{HasFromLabelsFault, IsFromLabels};
 
 use crate::bits::bit_byte;
 use crate::circuit::KeptCircuit;
 use crate::fault::KeptFault;
+use crate::given::StartBytes;
 use gc_half::{FirstAnd, Garbling, Start, encode, garble_from, garble_one_thread};
 use gc_label::{Label, Offset, Seed, offset};
 use std::alloc::Global;
@@ -30,14 +31,16 @@ impl Model for KeptGarbling {
     ghost Value = { GarblingWith };
 
     ghost view = { λ g. record {
-      circuit = g.circuit;
+      circuit = g.circuit.netlist;
+      has_digest = g.circuit.has_digest;
       offset = g.offset;
       first = g.first;
       garbling = g.garbling;
     } };
 
     ghost invariant = { λ g. IsGarblingWith (record {
-      circuit = g.circuit;
+      circuit = g.circuit.netlist;
+      has_digest = g.circuit.has_digest;
       offset = g.offset;
       first = g.first;
       garbling = g.garbling;
@@ -48,10 +51,7 @@ impl KeptCircuit {
     /// Garbles the circuit under a seed on one thread, as [`garble_one_thread`] does: the offset and the zero labels of
     /// the input wires are those of the seed, and AND gates are numbered from 0 on.
     pub fn garble(&self, alloc: Global, seed: &[u8; 32]) -> Result<KeptGarbling, KeptFault>
-        ensures circuit { IfOk result (λ g. g.circuit ≡ self.now) }
-        ensures offset { IfOk result (λ g. g.offset ≡ offset_of seed.now) }
-        ensures first { IfOk result (λ g. g.first ≡ 0) }
-        ensures garbled { IfOk result (λ g. IsGarbled self.now seed.now g.garbling) }
+        ensures ok { IfOk result (IsGarblingUnder self.now seed.now) }
         ensures fault { IfErr result IsWantOfMemory }
     {
         let seed = Seed::from_bytes(*seed);
@@ -72,15 +72,14 @@ impl KeptCircuit {
     pub fn garble_from(
         &self,
         alloc: Global,
-        offset: &[u8; 16],
-        zero_labels: &[u8],
-        first: u64,
+        start: StartBytes<'_>,
     ) -> Result<KeptGarbling, KeptFault>
-        ensures ok { IfOk result (IsFromLabels self.now offset.now zero_labels.now first) }
-        ensures fault { IfErr result
-            (HasFromLabelsFault self.now offset.now zero_labels.now first) }
+        ensures ok { IfOk result (IsFromLabels self.now
+            start.entry.offset.now start.entry.zero_labels.now start.entry.first) }
+        ensures fault { IfErr result (HasFromLabelsFault self.now.netlist
+            start.entry.offset.now start.entry.zero_labels.now start.entry.first) }
     {
-        let given = self.given(alloc, offset, zero_labels, first)?;
+        let given = self.given(alloc, start)?;
         let circuit = self.circuit();
         let start = Start {
             offset: given.offset,
@@ -119,9 +118,31 @@ impl KeptGarbling {
         self.first == FirstAnd::ZERO
     }
 
+    /// The digest for the garbled files. It refuses a garbling whose AND gates aren't numbered from 0 on (60), and then
+    /// one of a circuit that had no digest (68).
+    pub(crate) fn file_digest(&self) -> Result<&[u8; 32], KeptFault>
+        ensures has { OnOk result (HasFiles self.now) }
+        ensures digest { IfOk result (λ digest.
+            digest.now ≡ sha256 (canonical_text self.now.circuit)) }
+        ensures fault { IfErr result (HasNoFiles self.now) }
+    {
+        if !self.is_from_zero() {
+            return Err(KeptFault::BadArgument);
+        }
+        self.circuit.digest()
+    }
+
+    /// Whether the circuit had its digest.
+    pub(crate) fn has_digest(&self) -> bool
+        ensures { result ≡ self.now.has_digest }
+    {
+        self.circuit.has_digest()
+    }
+
     /// The circuit.
     pub fn circuit(&self) -> &KeptCircuit
-        ensures { result.now ≡ self.now.circuit }
+        ensures netlist { result.now.netlist ≡ self.now.circuit }
+        ensures digest { result.now.has_digest ≡ self.now.has_digest }
     {
         &self.circuit
     }

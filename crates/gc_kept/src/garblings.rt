@@ -1,20 +1,21 @@
 //! Lists of garblings.
 
-ghost use Rattle.std.specs.Prelude.{◌≡◌, ◌+◌, ◌≤◌, ◌++◌, length, map, flat_map, take, drop, IfOk, IfErr, OnOk, OnErr};
+ghost use Rattle.std.specs.Prelude.{◌≡◌, ◌+◌, ◌≤◌, ◌++◌, length, map, flat_map, take, drop, IfOk, IfErr, OnOk, OnErr, All};
 ghost use Rattle.sha2.specs.Sha256.{sha256};
-ghost use Rattle.gc_kept.specs.Files.{HasRoomFault, IsFileAt, file_of};
-ghost use Rattle.gc_kept.specs.Garblings.{AreAllGarbledAt, AreFromZero, HasAllGarbledFault, body_of, files_of, with_trailer};
+ghost use Rattle.gc_kept.specs.Files.{HasRoomFault, IsFileAt};
+ghost use Rattle.gc_kept.specs.Garbling.{HasFiles};
+ghost use Rattle.gc_kept.specs.Garblings.{AreAllGarbledAt, HasAllGarbledFault, HaveNoFiles, body_of, files_of, with_trailer};
 
 use crate::fault::KeptFault;
 use crate::garbling::KeptGarbling;
-use gc_file::{MemSink, Trailer, Version};
+use gc_file::{MemSink, Trailer, Version, write_garbled_file};
 use gc_lanes::{SIDE_BY_SIDE, digest_eight};
 use std::alloc::Global;
 
 /// Writes the garbled file of each garbling, as [`KeptGarbling::write`] does, one after another to the front of a
 /// buffer. The trailers of up to eight files that follow one another are digested side by side. It refuses a list with
-/// a garbling whose AND gates aren't numbered from 0 on (60), then a buffer without room for all files (61). After a
-/// fault the buffer is as it was.
+/// a garbling whose AND gates aren't numbered from 0 on (60), then one with a garbling of a circuit that had no digest
+/// (68), then a buffer without room for all files (61). After a fault the buffer is as it was.
 pub fn write_many(
     alloc: Global,
     garblings: &[&KeptGarbling],
@@ -27,7 +28,7 @@ pub fn write_many(
         (HasAllGarbledFault (map (λ g. g.now) garblings.now) version (length files.old)) }
     ensures unwritten { OnErr result (files.new ≡ files.old) }
 {
-    look_at_numbers(garblings)?;
+    look_at_each(garblings)?;
     look_for_room(garblings, version, files)?;
     let bodies = bodies_of(alloc, garblings, version)?;
     let bodies = slices_of(alloc, &bodies)?;
@@ -36,16 +37,17 @@ pub fn write_many(
     Ok(())
 }
 
-/// Checks that the AND gates of each garbling are numbered from 0 on.
-fn look_at_numbers(garblings: &[&KeptGarbling]) -> Result<(), KeptFault>
-    ensures ok { OnOk result (AreFromZero (map (λ g. g.now) garblings.now)) }
-    ensures fault { IfErr result (λ fault. fault ≡ KeptFault.BadArgument) }
-    ensures one { OnErr result (¬ AreFromZero (map (λ g. g.now) garblings.now)) }
+/// Checks that each garbling has garbled files: first that the AND gates of each are numbered from 0 on, and then that
+/// the circuit of each had its digest.
+fn look_at_each(garblings: &[&KeptGarbling]) -> Result<(), KeptFault>
+    ensures ok { OnOk result (All HasFiles (map (λ g. g.now) garblings.now)) }
+    ensures fault { IfErr result (HaveNoFiles (map (λ g. g.now) garblings.now)) }
 {
-    for garbling in garblings {
-        if !garbling.is_from_zero() {
-            return Err(KeptFault::BadArgument);
-        }
+    if !garblings.iter().all(|garbling| garbling.is_from_zero()) {
+        return Err(KeptFault::BadArgument);
+    }
+    if !garblings.iter().all(|garbling| garbling.has_digest()) {
+        return Err(KeptFault::NoDigest);
     }
     Ok(())
 }
@@ -73,33 +75,28 @@ fn look_for_room(
 }
 
 impl KeptGarbling {
-    /// How many bytes the garbled file of a version has.
-    fn file_size(&self, version: Version) -> usize
-        ensures { result ≡ length (file_of self.now version) }
-    {
-        self.law_garbled();
-        self.circuit().garbled_size(version) as usize
-    }
-
-    /// The bytes of the garbled file of a version before its trailer.
+    /// The bytes of the garbled file of a version before its trailer. The caller ensures that there is one.
     fn body(&self, alloc: Global, version: Version) -> Result<Vec<u8, Global>, KeptFault>
+        requires { HasFiles self.now }
         ensures ok { IfOk result (λ bytes. bytes.items ≡ body_of version self.now) }
         ensures fault { IfErr result (λ fault. fault ≡ KeptFault.Memory) }
     {
+        let source = self.source(version)?;
         let mut sink = MemSink::new(alloc, None);
-        match self.write_to(&mut sink, version, Trailer::Omitted) {
+        match write_garbled_file(&mut sink, &source, Trailer::Omitted) {
             Ok(_) => Ok(sink.into_bytes()),
             Err(_) => Err(KeptFault::Memory),
         }
     }
 }
 
-/// The bytes of each garbled file before its trailer.
+/// The bytes of each garbled file before its trailer. The caller ensures that there is one of each garbling.
 fn bodies_of(
     alloc: Global,
     garblings: &[&KeptGarbling],
     version: Version,
 ) -> Result<Vec<Vec<u8, Global>, Global>, KeptFault>
+    requires { All HasFiles (map (λ g. g.now) garblings.now) }
     ensures ok { IfOk result (λ bodies.
         map (λ b. b.items) bodies.items ≡ map (body_of version) (map (λ g. g.now) garblings.now)) }
     ensures fault { IfErr result (λ fault. fault ≡ KeptFault.Memory) }

@@ -1,8 +1,8 @@
 //! Jobs that hold their circuit.
 
-ghost use Rattle.std.specs.Prelude.{◌≡◌, ◌<◌, ◌^◌, length, IfOk, IfErr, OnOk, OnErr};
+ghost use Rattle.std.specs.Prelude.{◌≡◌, ◌<◌, ◌^◌, length, IfOk, IfErr, IsTrue, OnOk, OnErr};
 ghost use Rattle.gc_netlist.specs.Circuit.{output_wires};
-ghost use Rattle.gc_kept.specs.Job.{IsBoundJob, HasKeptJobFault, AreEvaluated, HasEvaluationFault};
+ghost use Rattle.gc_kept.specs.Job.{IsBoundJob, HasBindingFault, AreEvaluated, HasEvaluationFault};
 ghost use Rattle.gc_kept.specs.Labels.{AreJobLabels, HasJobLabelsFault};
 
 use crate::bits::write_bits;
@@ -29,27 +29,36 @@ impl Model for KeptJob {
 
     ghost Value = { JobParts };
 
-    ghost view = { λ j. job_of j.circuit j.job.garbled j.job.inputs };
+    ghost view = { λ j. job_of j.circuit.netlist j.job.garbled j.job.inputs };
 
-    ghost invariant = { λ j. IsWhole (job_of j.circuit j.job.garbled j.job.inputs) };
+    ghost invariant = { λ j. IsWhole (job_of j.circuit.netlist j.job.garbled j.job.inputs) };
+}
+
+/// The files of a job.
+#[derive(Clone, Copy)]
+pub struct JobFiles<'a> {
+    /// The garbled file.
+    pub garbled: &'a [u8],
+    /// The label files, one after another.
+    pub labels: &'a [u8],
+    /// The number of bytes of each label file.
+    pub lengths: &'a [usize],
 }
 
 impl KeptCircuit {
-    /// Binds a garbled file and label files to a job, as [`Job::bind`] does. The label files follow one another, and
-    /// `lengths` has the number of bytes of each. Nothing of them is trusted.
-    pub fn bind(
-        &self,
-        alloc: Global,
-        garbled: &[u8],
-        labels: &[u8],
-        lengths: &[usize],
-    ) -> Result<KeptJob, KeptFault>
-        ensures ok { IfOk result (IsBoundJob self.now garbled.now labels.now lengths.now) }
-        ensures fault { IfErr result (HasKeptJobFault self.now garbled.now labels.now lengths.now) }
+    /// Binds a garbled file and label files to a job, as [`Job::bind`] does. Nothing of them is trusted. It refuses a
+    /// circuit without a digest (68).
+    pub fn bind(&self, alloc: Global, files: JobFiles<'_>) -> Result<KeptJob, KeptFault>
+        ensures digest { OnOk result (IsTrue self.now.has_digest) }
+        ensures ok { IfOk result (IsBoundJob self.now.netlist
+            files.entry.garbled.now files.entry.labels.now files.entry.lengths.now) }
+        ensures fault { IfErr result (HasBindingFault self.now
+            files.entry.garbled.now files.entry.labels.now files.entry.lengths.now) }
     {
-        let garbled = read_garbled(alloc, garbled)?;
-        let files = read_label_files(alloc, labels, lengths)?;
-        let job = Job::bind_by_digest(alloc, self.circuit(), self.digest(), garbled, &files)?;
+        let digest = self.digest()?;
+        let garbled = read_garbled(alloc, files.garbled)?;
+        let labels = read_label_files(alloc, files.labels, files.lengths)?;
+        let job = Job::bind_by_digest(alloc, self.circuit(), digest, garbled, &labels)?;
         Ok(KeptJob {
             job: job.detach(),
             circuit: self.again()?,

@@ -21,6 +21,9 @@ pub fn evaluate_list(alloc: Global, jobs: &[&KeptJob], bits: &mut [u8]) -> Resul
     ensures unwritten { OnErr result (bits.new ≡ bits.old) }
 {
     look_for_room(jobs, bits)?;
+    if jobs.is_empty() {
+        return Ok(());
+    }
     let known = known_of(alloc, jobs)?;
     let found = evaluate_rest(alloc, jobs, known)?;
     let all = joined(alloc, &found)?;

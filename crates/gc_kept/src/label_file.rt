@@ -102,10 +102,10 @@ impl KeptCircuit {
     ) -> Result<Vec<bool, Global>, KeptFault>
         ensures bytes { IfOk result (λ v. bits.now ≡ map bit_number v.items) }
         ensures width { IfOk result (λ v.
-            slice_get self.now.input_widths index ≡ Some (length v.items)) }
+            slice_get self.now.netlist.input_widths index ≡ Some (length v.items)) }
         ensures few { IfOk result (λ v. length v.items < 2 ^ 32) }
         ensures room { IfOk result (λ v. 16 + 16 * length v.items ≤ length buffer.now) }
-        ensures fault { (offset : ℕ) (zero_label : ℕ → ℕ) → IfErr result (HasDealtFaultWith self.now
+        ensures fault { (offset : ℕ) (zero_label : ℕ → ℕ) → IfErr result (HasDealtFaultWith self.now.netlist
             offset zero_label index bits.now (length buffer.now) written.new) }
         ensures unreported { IfErr result (λ fault.
             fault ≢ KeptFault.SmallBuffer → written.new ≡ written.old) }
@@ -131,9 +131,9 @@ impl KeptCircuit {
         written: &mut usize,
     ) -> Result<(), KeptFault>
         ensures ok { OnOk result
-            (IsDealtAt self.now seed.now index bits.now buffer.old buffer.new written.new) }
+            (IsDealtAt self.now.netlist seed.now index bits.now buffer.old buffer.new written.new) }
         ensures fault { IfErr result
-            (HasDealtFault self.now seed.now index bits.now (length buffer.old) written.new) }
+            (HasDealtFault self.now.netlist seed.now index bits.now (length buffer.old) written.new) }
         ensures unwritten { OnErr result (buffer.new ≡ buffer.old) }
         ensures unreported { IfErr result (λ fault.
             fault ≢ KeptFault.SmallBuffer → written.new ≡ written.old) }
@@ -160,9 +160,9 @@ impl KeptCircuit {
         written: &mut usize,
     ) -> Result<(), KeptFault>
         ensures ok { OnOk result
-            (IsReceivedAt self.now index labels.now buffer.old buffer.new written.new) }
+            (IsReceivedAt self.now.netlist index labels.now buffer.old buffer.new written.new) }
         ensures fault { IfErr result
-            (HasReceivedFault self.now index labels.now (length buffer.old) written.new) }
+            (HasReceivedFault self.now.netlist index labels.now (length buffer.old) written.new) }
         ensures unwritten { OnErr result (buffer.new ≡ buffer.old) }
         ensures unreported { IfErr result (λ fault.
             fault ≢ KeptFault.SmallBuffer → written.new ≡ written.old) }

@@ -1,8 +1,8 @@
 //! Circuits, garblings and jobs that own their circuit, so callers may free them in any order: what a library for other
 //! languages hands out. Bits are bytes here, 0 and 1, and files are bytes in memory.
 //!
-//! A [`KeptCircuit`] has its digest with it. A [`KeptGarbling`] and a [`KeptJob`] share their circuit. A garbling is
-//! made under a seed, or from an offset and labels of the caller's; circuits that follow one another are garbled and
+//! A [`KeptCircuit`] has its digest once that is taken. A [`KeptGarbling`] and a [`KeptJob`] share their circuit. A
+//! garbling is made under a seed, or from an offset and labels of the caller's; circuits that follow one another are garbled and
 //! evaluated from labels to labels. A [`KeptGarbler`] gives its row pairs in pieces, and a [`KeptEvaluator`] takes them so.
 #![tactic(auto)]
 
@@ -35,16 +35,19 @@ mod values;
 mod version;
 mod wires;
 
+pub use audit::RowsAudit;
 pub use bits::write_bits;
 pub use circuit::KeptCircuit;
 pub use each::evaluate_each;
 pub use evaluator::KeptEvaluator;
 pub use fault::KeptFault;
-pub use from_labels::decode;
+pub use from_labels::{EvaluationBytes, decode};
 pub use garbler::KeptGarbler;
 pub use garbling::KeptGarbling;
 pub use garblings::write_many;
+pub use given::StartBytes;
 pub use held::Held;
-pub use job::KeptJob;
+pub use job::{JobFiles, KeptJob};
 pub use jobs::evaluate_list;
+pub use many::Pace;
 pub use version::version_of;

@@ -15,8 +15,8 @@ use std::alloc::Global;
 impl KeptCircuit {
     /// The bits on all wires, in order, for the bits of all input wires; false on a wire that is not set.
     pub fn wire_bits(&self, alloc: Global, bits: &[u8]) -> Result<Vec<bool, Global>, KeptFault>
-        ensures ok { IfOk result (λ all. AreBitsOn self.now bits.now all.items) }
-        ensures fault { IfErr result (HasBitsFault bits.now (input_wires self.now)) }
+        ensures ok { IfOk result (λ all. AreBitsOn self.now.netlist bits.now all.items) }
+        ensures fault { IfErr result (HasBitsFault bits.now (input_wires self.now.netlist)) }
     {
         let circuit = self.circuit();
         let bits = read_bits(alloc, bits, circuit.input_wires() as usize)?;

@@ -59,4 +59,5 @@ fault_name n =
     else if n == 65 then codes "WrongHandle"
     else if n == 66 then codes "WrongSize"
     else if n == 67 then codes "Unfinished"
+    else if n == 68 then codes "NoDigest"
     else codes "Unknown"

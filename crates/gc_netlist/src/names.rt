@@ -65,6 +65,7 @@ pub fn fault_name(code: u32) -> &'static str
         65 => "WrongHandle",
         66 => "WrongSize",
         67 => "Unfinished",
+        68 => "NoDigest",
         _ => "Unknown",
     }
 }

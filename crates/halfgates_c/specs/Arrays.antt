@@ -1,5 +1,5 @@
 -- Circuits from arrays of gates.
-use Rattle.std.specs.Prelude.{◌≡◌, ◌≢◌, ◌⊎◌, ℕ, List, pos, Option, unwrap_or}
+use Rattle.std.specs.Prelude.{◌≡◌, ◌≢◌, ◌⊎◌, ℕ, Bool, List, pos, Option, unwrap_or}
 use Rattle.gc_netlist.specs.declared.fault.ReadFault.{ReadFault}
 use Rattle.gc_netlist.specs.declared.fault.ReadFault.TheVariants as read
 use Rattle.gc_netlist.specs.Fault.{code_of}
@@ -8,18 +8,17 @@ use Rattle.gc_netlist.specs.Canon.{canonical_text}
 use Rattle.gc_circuit.specs.Arrays.{IsFound}
 use Rattle.gc_kept.specs.declared.fault.KeptFault.{KeptFault}
 use Rattle.gc_kept.specs.declared.fault.KeptFault.TheVariants.{Circuit, Memory}
-use Rattle.gc_kept.specs.declared.held.Held.TheVariants as held
 use Rattle.halfgates_c.specs.declared.locate.TheConstants.{NONE}
 use Rattle.halfgates_c.specs.declared.locate.Place.{Place}
 use Rattle.halfgates_c.specs.declared.slot.Slot.{Slot}
-use Rattle.halfgates_c.specs.Holding.{Holds}
+use Rattle.halfgates_c.specs.Holding.{IsKept}
 
--- C's pointer is to a handle of the lawful circuit whose canonical text this is.
-pub record HoldsCanonical (text : List ℕ) (slot : Slot) : Type 0 where
+-- C's pointer is to a handle of the lawful circuit whose canonical text this is, with its digest or without.
+pub record HoldsCanonical (text : List ℕ) (has_digest : Bool) (slot : Slot) : Type 0 where
   pub circuit : Netlist
   pub lawful : IsLawful circuit
   pub canonical : canonical_text circuit ≡ text
-  pub holds : Holds slot (held.Circuit circuit)
+  pub holds : IsKept slot.held circuit has_digest
 
 -- The place is that of a fault in this gate that is about this wire. It has no line and no column.
 pub record IsArraysPlace (e : ReadFault) (gate wire : Option ℕ) (p : Place) : Type 0 where

@@ -1,7 +1,8 @@
 -- What handles hold.
-use Rattle.std.specs.Prelude.{◌≡◌, ◌⊎◌, ℤ, pos, Option, Some, None, List, [], ◌∷◌}
+use Rattle.std.specs.Prelude.{◌≡◌, ◌⊎◌, ℤ, pos, Bool, MatchBool, Option, Some, None, List, [], ◌∷◌}
 use Rattle.gc_netlist.specs.Circuit.{Netlist}
 use Rattle.gc_job.specs.Job.{JobParts}
+use Rattle.gc_kept.specs.Circuit.{CircuitWith}
 use Rattle.gc_kept.specs.Garbling.{GarblingWith}
 use Rattle.gc_kept.specs.Garbler.{GarblerWith}
 use Rattle.gc_kept.specs.Evaluator.{EvaluatorWith}
@@ -10,13 +11,22 @@ use Rattle.gc_kept.specs.declared.held.Held.TheVariants.{Circuit, Garbling, Job,
 use Rattle.halfgates_c.specs.declared.slot.Slot.{Slot}
 
 -- The code is what a call on a circuit says of it, or 64 for a null, and 65 for a handle of another type.
+abbrev pub OfKept : Option Held → (code : ℤ) → (CircuitWith → Type 0) → Type 0
+OfKept None code P = code ≡ pos 64
+OfKept (Some (Circuit circuit)) code P = P circuit
+OfKept (Some (Garbling garbling)) code P = code ≡ pos 65
+OfKept (Some (Job job)) code P = code ≡ pos 65
+OfKept (Some (Garbler garbler)) code P = code ≡ pos 65
+OfKept (Some (Evaluator evaluator)) code P = code ≡ pos 65
+
+-- The same where it says nothing of the digest,
 abbrev pub OfCircuit : Option Held → (code : ℤ) → (Netlist → Type 0) → Type 0
-OfCircuit None code P = code ≡ pos 64
-OfCircuit (Some (Circuit circuit)) code P = P circuit
-OfCircuit (Some (Garbling garbling)) code P = code ≡ pos 65
-OfCircuit (Some (Job job)) code P = code ≡ pos 65
-OfCircuit (Some (Garbler garbler)) code P = code ≡ pos 65
-OfCircuit (Some (Evaluator evaluator)) code P = code ≡ pos 65
+OfCircuit held code P = OfKept held code (λ c. P c.netlist)
+
+-- and where it needs the digest: 68 where there is none.
+abbrev pub OfDigested : Option Held → (code : ℤ) → (Netlist → Type 0) → Type 0
+OfDigested held code P =
+    OfKept held code (λ c. MatchBool c.has_digest (P c.netlist) (code ≡ pos 68))
 
 -- The same of a garbling,
 abbrev pub OfGarbling : Option Held → (code : ℤ) → (GarblingWith → Type 0) → Type 0
@@ -81,7 +91,7 @@ OfNoJobs held code = OfJobs held code (λ jobs. ⊥)
 -- The circuit that is held, if one is.
 abbrev pub circuit_of : Option Held → Option Netlist
 circuit_of None = None
-circuit_of (Some (Circuit circuit)) = Some circuit
+circuit_of (Some (Circuit circuit)) = Some circuit.netlist
 circuit_of (Some (Garbling garbling)) = None
 circuit_of (Some (Job job)) = None
 circuit_of (Some (Garbler garbler)) = None
@@ -90,3 +100,7 @@ circuit_of (Some (Evaluator evaluator)) = None
 -- C's pointer is to a handle that holds this.
 abbrev pub Holds : Slot → Held → Type 0
 Holds slot held = slot.held ≡ Some held
+
+-- What is held is this circuit, with its digest or without.
+abbrev pub IsKept : Option Held → Netlist → (has_digest : Bool) → Type 0
+IsKept held c has_digest = held ≡ Some (Circuit (record { netlist = c; has_digest = has_digest }))

@@ -59,4 +59,4 @@ pub record LacksRoom (g : GarblingWith) (bytes : List ℕ) (room : ℕ) (r : Lab
 abbrev pub HasReportFault : GarblingWith → (bytes : List ℕ) → (room : ℕ) → LabelsReport
     → KeptFault → Type 0
 HasReportFault g bytes room report SmallBuffer = LacksRoom g bytes room report
-HasReportFault g bytes room report fault = HasLabelsAuditFault g bytes fault
+HasReportFault g bytes room report fault = HasLabelsAuditFault bytes fault

@@ -48,6 +48,7 @@ name_at n =
     else if n == 65 then codes "WrongHandle"
     else if n == 66 then codes "WrongSize"
     else if n == 67 then codes "Unfinished"
+    else if n == 68 then codes "NoDigest"
     else codes "Unknown"
 
 -- the name of a code; no code is negative

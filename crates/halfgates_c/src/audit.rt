@@ -1,12 +1,12 @@
 //! Comparing files with a garbling.
 
-ghost use Rattle.std.specs.Prelude.{◌≡◌, ◌≢◌, OnOk, OnErr, IfErr, MatchOption, pos};
+ghost use Rattle.std.specs.Prelude.{◌≡◌, ◌≢◌, OnOk, OnErr, IfErr, pos};
 ghost use Rattle.core.specs.Ptr.{as_mut_ptr};
 ghost use denote.RawPtr.{Testable};
 ghost use Rattle.gc_kept.specs.Audit.{HasGarbledAuditFault};
 ghost use Rattle.halfgates_c.specs.Answers.{Answers};
 ghost use Rattle.halfgates_c.specs.Holding.{OfGarbling};
-ghost use Rattle.halfgates_c.specs.Reports.{AreRowFlags, IsReport, IsReportOn, version_number};
+ghost use Rattle.halfgates_c.specs.Reports.{AreRowFields, AreRowFlags, IsReport, IsReportOn, version_number};
 
 use crate::code::{NULL_POINTER, code_of};
 use crate::handle::{Handle, on_held};
@@ -45,18 +45,48 @@ fn version_number(version: Version) -> u8
     }
 }
 
-/// Whether the generator's row differs, and whether the evaluator's does, as bytes: 0 and 0 where no row pair differs.
-fn row_flags(rows: Option<RowDifference>) -> (u8, u8)
-    ensures { MatchOption rows ((result.0 ≡ 0) × (result.1 ≡ 0))
-        (λ d. AreRowFlags d.rows result.0 result.1) }
+/// The fields of a report on row pairs.
+#[derive(Clone, Copy)]
+pub(crate) struct RowFields {
+    pub(crate) generator: u8,
+    pub(crate) evaluator: u8,
+    pub(crate) row: u32,
+    pub(crate) gate: u32,
+    pub(crate) wire: u32,
+}
+
+/// Whether the generator's row differs, and whether the evaluator's does.
+fn row_flags(rows: DifferingRows) -> (u8, u8)
+    ensures { AreRowFlags rows result.0 result.1 }
 {
-    let Some(difference) = rows else {
-        return (0, 0);
-    };
-    match difference.rows {
+    match rows {
         DifferingRows::Generator => (1, 0),
         DifferingRows::Evaluator => (0, 1),
         DifferingRows::Both => (1, 1),
+    }
+}
+
+/// The fields for the first row pair that differs, if there is one.
+pub(crate) fn row_fields(rows: Option<RowDifference>) -> RowFields
+    ensures { AreRowFields rows
+        result.generator result.evaluator result.row result.gate result.wire }
+{
+    let Some(difference) = rows else {
+        return RowFields {
+            generator: 0,
+            evaluator: 0,
+            row: NONE,
+            gate: NONE,
+            wire: NONE,
+        };
+    };
+    let (generator, evaluator) = row_flags(difference.rows);
+    RowFields {
+        generator,
+        evaluator,
+        row: difference.number,
+        gate: difference.gate,
+        wire: difference.wire,
     }
 }
 
@@ -64,20 +94,19 @@ fn row_flags(rows: Option<RowDifference>) -> (u8, u8)
 fn report_of(version: Version, found: &GarbledAudit) -> Report
     ensures { IsReport version found.now result }
 {
-    let rows = found.parts.and_then(|parts| parts.rows);
+    let rows = row_fields(found.parts.and_then(|parts| parts.rows));
     let entry = found.parts.and_then(|parts| parts.entries);
-    let (generator, evaluator) = row_flags(rows);
     Report {
         honest: u8::from(found.is_honest()),
         version: version_number(version),
         digest: u8::from(found.digest),
         counts: u8::from(found.parts.is_some()),
-        generator,
-        evaluator,
+        generator: rows.generator,
+        evaluator: rows.evaluator,
         entry_colour: entry.map_or(0, |entry| u8::from(entry.colour)),
-        row: rows.map_or(NONE, |rows| rows.number),
-        gate: rows.map_or(NONE, |rows| rows.gate),
-        wire: rows.map_or(NONE, |rows| rows.wire),
+        row: rows.row,
+        gate: rows.gate,
+        wire: rows.wire,
         decode_bit: found.parts.and_then(|parts| parts.bits).unwrap_or(NONE),
         entry: entry.map_or(NONE, |entry| entry.output),
     }

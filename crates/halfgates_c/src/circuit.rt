@@ -1,6 +1,6 @@
 //! Circuits.
 
-ghost use Rattle.std.specs.Prelude.{◌≡◌, ◌≢◌, OnOk, OnErr, IfErr, pos, length};
+ghost use Rattle.std.specs.Prelude.{◌≡◌, ◌≢◌, IfErr, IsFalse, MatchBool, OnErr, OnOk, Some, false, length, pos, true};
 ghost use Rattle.core.specs.Ptr.{as_mut_ptr};
 ghost use denote.RawPtr.{Testable};
 ghost use Rattle.sha2.specs.Sha256.{sha256};
@@ -8,11 +8,11 @@ ghost use Rattle.gc_netlist.specs.Canon.{canonical_text};
 ghost use Rattle.gc_kept.specs.Circuit.{HasCircuitTextFault};
 ghost use Rattle.gc_kept.specs.Plain.{ArePlainOutputs, HasPlainBufferFault};
 ghost use Rattle.halfgates_c.specs.Answers.{Answers};
-ghost use Rattle.halfgates_c.specs.Holding.{OfCircuit};
+ghost use Rattle.halfgates_c.specs.Holding.{IsKept, OfCircuit, OfDigested, OfKept};
 ghost use Rattle.halfgates_c.specs.Reading.{HoldsCircuit, HoldsOrdered, HoldsShared};
 ghost use Rattle.halfgates_c.specs.Numbers.{AreNumbers, Copies};
 
-use crate::code::{NULL_POINTER, OK, SMALL_BUFFER, code_of};
+use crate::code::{NO_DIGEST, NULL_POINTER, OK, SMALL_BUFFER, WRONG_HANDLE, code_of};
 use crate::handle::{Handle, on_held};
 use crate::null::is_null;
 use crate::slot::Slot;
@@ -32,28 +32,94 @@ pub struct Numbers {
     pub output_values: u32,
 }
 
-/// Reads a circuit and hands it out.
-fn read(alloc: Global, text: &[u8], slot: &mut Slot) -> Result<(), KeptFault>
-    ensures ok { OnOk result (HoldsCircuit text.now slot.new) }
+/// Hands out a circuit that has no digest, or takes its digest first. That it has none is the caller's condition.
+pub(crate) fn hand_out(
+    alloc: Global,
+    mut circuit: KeptCircuit,
+    with_digest: bool,
+    slot: &mut Slot,
+) -> Result<(), KeptFault>
+    requires { IsFalse circuit.has_digest }
+    ensures ok { OnOk result (IsKept slot.new.held circuit.netlist with_digest) }
+    ensures fault { IfErr result (λ fault. fault ≡ KeptFault.Memory) }
+    ensures kept { OnErr result (slot.new ≡ slot.old) }
+{
+    if with_digest {
+        circuit.take_digest();
+    }
+    slot.hand_out(alloc, Held::Circuit(circuit))
+}
+
+/// Reads a circuit and hands it out, with its digest or without.
+fn read(alloc: Global, text: &[u8], with_digest: bool, slot: &mut Slot) -> Result<(), KeptFault>
+    ensures ok { OnOk result (HoldsCircuit text.now with_digest slot.new) }
     ensures fault { IfErr result (HasCircuitTextFault text.now) }
     ensures kept { OnErr result (slot.new ≡ slot.old) }
 {
     let circuit = KeptCircuit::read(alloc, text)?;
-    slot.hand_out(alloc, Held::Circuit(circuit))
+    hand_out(alloc, circuit, with_digest, slot)
 }
 
-/// Reads a circuit.
+/// Reads a circuit, and takes its digest.
 #[unsafe(no_mangle)]
 pub extern "C" fn halfgates_circuit_read(alloc: Global, text: &[u8], circuit: &mut Slot) -> i32
     requires circuit { Testable (as_mut_ptr circuit) }
-    ensures answers { Answers result (HoldsCircuit text.now circuit.new)
+    ensures answers { Answers result (HoldsCircuit text.now true circuit.new)
         (HasCircuitTextFault text.now) }
     ensures kept { result ≢ pos 0 → circuit.new ≡ circuit.old }
 {
     if is_null(circuit) {
         return NULL_POINTER;
     }
-    code_of(read(alloc, text, circuit))
+    code_of(read(alloc, text, true, circuit))
+}
+
+/// Reads a circuit, without its digest.
+#[unsafe(no_mangle)]
+pub extern "C" fn halfgates_circuit_read_without_digest(
+    alloc: Global,
+    text: &[u8],
+    circuit: &mut Slot,
+) -> i32
+    requires circuit { Testable (as_mut_ptr circuit) }
+    ensures answers { Answers result (HoldsCircuit text.now false circuit.new)
+        (HasCircuitTextFault text.now) }
+    ensures kept { result ≢ pos 0 → circuit.new ≡ circuit.old }
+{
+    if is_null(circuit) {
+        return NULL_POINTER;
+    }
+    code_of(read(alloc, text, false, circuit))
+}
+
+/// Takes the digest of what is held, if it is a circuit.
+fn take_digest(held: &mut Held) -> i32
+    ensures answer { OfCircuit (Some held.old) result
+        (λ c. (result ≡ pos 0) × IsKept (Some held.new) c true) }
+    ensures kept { result ≢ pos 0 → held.new ≡ held.old }
+{
+    match held {
+        Held::Circuit(circuit) => {
+            circuit.take_digest();
+            OK
+        }
+        _ => WRONG_HANDLE,
+    }
+}
+
+/// Takes the digest of a circuit, where it has none.
+#[unsafe(no_mangle)]
+pub extern "C" fn halfgates_circuit_take_digest(alloc: Global, circuit: &mut Slot) -> i32
+    ensures answer { OfCircuit circuit.old.held result
+        (λ c. (result ≡ pos 0) × IsKept circuit.new.held c true) }
+    ensures kept { result ≢ pos 0 → circuit.new.held ≡ circuit.old.held }
+{
+    let Some(mut held) = circuit.take(alloc) else {
+        return NULL_POINTER;
+    };
+    let code = take_digest(&mut held);
+    circuit.put(held);
+    code
 }
 
 /// Hands out one more handle of a circuit.
@@ -74,7 +140,7 @@ pub extern "C" fn halfgates_circuit_share(
     other: &mut Slot,
 ) -> i32
     requires other { Testable (as_mut_ptr other) }
-    ensures answer { OfCircuit circuit.old.held result (λ c.
+    ensures answer { OfKept circuit.old.held result (λ c.
         Answers result (HoldsShared c other.new) (λ fault. fault ≡ KeptFault.Memory)) }
     ensures back { circuit.new ≡ circuit.old }
     ensures kept { result ≢ pos 0 → other.new ≡ other.old }
@@ -105,7 +171,7 @@ pub extern "C" fn halfgates_circuit_order(
     ordered: &mut Slot,
 ) -> i32
     requires ordered { Testable (as_mut_ptr ordered) }
-    ensures answer { OfCircuit circuit.old.held result (λ c.
+    ensures answer { OfKept circuit.old.held result (λ c.
         Answers result (HoldsOrdered c ordered.new) (λ fault. fault ≡ KeptFault.Memory)) }
     ensures back { circuit.new ≡ circuit.old }
     ensures kept { result ≢ pos 0 → ordered.new ≡ ordered.old }
@@ -126,7 +192,7 @@ pub extern "C" fn halfgates_circuit_free(circuit: Slot) {
 
 /// The numbers of a circuit.
 fn numbers_of(circuit: &KeptCircuit) -> Numbers
-    ensures { AreNumbers circuit.now result }
+    ensures { AreNumbers circuit.now.netlist result }
 {
     let circuit = circuit.circuit();
     Numbers {
@@ -195,11 +261,27 @@ pub extern "C" fn halfgates_circuit_output_widths(circuit: &mut Handle, widths: 
     })
 }
 
+/// Writes the digest of a circuit, if it has one.
+fn write_digest(circuit: &KeptCircuit, digest: &mut [u8; 32]) -> i32
+    ensures answer { MatchBool circuit.now.has_digest
+        ((result ≡ pos 0) × (digest.new ≡ sha256 (canonical_text circuit.now.netlist)))
+        (result ≡ pos 68) }
+    ensures kept { result ≢ pos 0 → digest.new ≡ digest.old }
+{
+    match circuit.digest() {
+        Ok(found) => {
+            *digest = *found;
+            OK
+        }
+        Err(_) => NO_DIGEST,
+    }
+}
+
 /// Writes the digest of a circuit.
 #[unsafe(no_mangle)]
 pub extern "C" fn halfgates_circuit_digest(circuit: &mut Handle, digest: &mut [u8; 32]) -> i32
     requires digest { Testable (as_mut_ptr digest) }
-    ensures answer { OfCircuit circuit.old.held result
+    ensures answer { OfDigested circuit.old.held result
         (λ c. (result ≡ pos 0) × (digest.new ≡ sha256 (canonical_text c))) }
     ensures back { circuit.new ≡ circuit.old }
     ensures kept { result ≢ pos 0 → digest.new ≡ digest.old }
@@ -207,10 +289,7 @@ pub extern "C" fn halfgates_circuit_digest(circuit: &mut Handle, digest: &mut [u
     if is_null(digest) {
         return NULL_POINTER;
     }
-    on_held!(circuit, Circuit(circuit) => {
-        *digest = *circuit.digest();
-        OK
-    })
+    on_held!(circuit, Circuit(circuit) => write_digest(circuit, digest))
 }
 
 /// Evaluates a circuit in the clear.

@@ -23,6 +23,9 @@ pub(crate) const NULL_POINTER: i32 = 64;
 /// The code of a handle of another type.
 pub(crate) const WRONG_HANDLE: i32 = 65;
 
+/// The code of a circuit without the digest that a call needs.
+pub(crate) const NO_DIGEST: i32 = 68;
+
 /// The code of an outcome: 0, or the number of the fault.
 pub(crate) fn code_of(outcome: Result<(), KeptFault>) -> i32
     ensures done { OnOk outcome (result ≡ pos 0) }

@@ -7,7 +7,7 @@ ghost use Rattle.halfgates_c.specs.Holding.{OfCircuit};
 
 use crate::code::code_of;
 use crate::handle::{Handle, on_held};
-use gc_kept::decode;
+use gc_kept::{EvaluationBytes, decode};
 use std::alloc::Global;
 
 /// Evaluates row pairs and labels, and writes the active labels of all output wires.
@@ -26,8 +26,13 @@ pub extern "C" fn halfgates_evaluate_labels(
     ensures back { circuit.new ≡ circuit.old }
     ensures kept { result ≢ pos 0 → outputs.new ≡ outputs.old }
 {
+    let given = EvaluationBytes {
+        rows,
+        first,
+        labels,
+    };
     on_held!(circuit, Circuit(circuit) => {
-        code_of(circuit.evaluate_labels(alloc, rows, first, labels, outputs))
+        code_of(circuit.evaluate_labels(alloc, given, outputs))
     })
 }
 

@@ -15,7 +15,7 @@ use crate::code::{NULL_POINTER, OK, WRONG_HANDLE, code_of};
 use crate::handle::{Handle, on_held};
 use crate::null::is_null;
 use crate::slot::Slot;
-use gc_kept::{Held, KeptCircuit, KeptFault, KeptGarbler};
+use gc_kept::{Held, KeptCircuit, KeptFault, KeptGarbler, StartBytes};
 use std::alloc::Global;
 
 /// Begins to garble a circuit under a seed, and hands the garbler out.
@@ -25,7 +25,7 @@ fn begin(
     seed: &[u8; 32],
     slot: &mut Slot,
 ) -> Result<(), KeptFault>
-    ensures ok { OnOk result (HoldsBegunUnder circuit.now seed.now slot.new) }
+    ensures ok { OnOk result (HoldsBegunUnder circuit.now.netlist seed.now slot.new) }
     ensures fault { IfErr result IsWantOfMemory }
     ensures kept { OnErr result (slot.new ≡ slot.old) }
 {
@@ -60,18 +60,16 @@ pub extern "C" fn halfgates_garbler_begin(
 fn begin_from(
     alloc: Global,
     circuit: &KeptCircuit,
-    offset: &[u8; 16],
-    zero_labels: &[u8],
-    first: u64,
+    start: StartBytes<'_>,
     slot: &mut Slot,
 ) -> Result<(), KeptFault>
-    ensures ok { OnOk result
-        (HoldsBegunFrom circuit.now offset.now zero_labels.now first slot.new) }
-    ensures fault { IfErr result
-        (HasFromLabelsFault circuit.now offset.now zero_labels.now first) }
+    ensures ok { OnOk result (HoldsBegunFrom circuit.now.netlist
+        start.entry.offset.now start.entry.zero_labels.now start.entry.first slot.new) }
+    ensures fault { IfErr result (HasFromLabelsFault circuit.now.netlist
+        start.entry.offset.now start.entry.zero_labels.now start.entry.first) }
     ensures kept { OnErr result (slot.new ≡ slot.old) }
 {
-    let garbler = circuit.begin_garbling_from(alloc, offset, zero_labels, first)?;
+    let garbler = circuit.begin_garbling_from(alloc, start)?;
     slot.hand_out(alloc, Held::Garbler(garbler))
 }
 
@@ -96,8 +94,13 @@ pub extern "C" fn halfgates_garbler_begin_from(
     if is_null(offset) || is_null(garbler) {
         return NULL_POINTER;
     }
+    let start = StartBytes {
+        offset,
+        zero_labels,
+        first,
+    };
     on_held!(circuit, Circuit(circuit) => {
-        code_of(begin_from(alloc, circuit, offset, zero_labels, first, garbler))
+        code_of(begin_from(alloc, circuit, start, garbler))
     })
 }
 

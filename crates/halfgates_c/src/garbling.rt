@@ -7,14 +7,14 @@ ghost use Rattle.gc_kept.specs.Garbling.{IsWantOfMemory};
 ghost use Rattle.gc_kept.specs.Labels.{HasFromLabelsFault};
 ghost use Rattle.gc_kept.specs.Wires.{IsZeroLabel, IsDecodeBit, HasNoWire, HasNoOutput};
 ghost use Rattle.halfgates_c.specs.Answers.{Answers};
-ghost use Rattle.halfgates_c.specs.Holding.{OfCircuit, OfGarbling};
+ghost use Rattle.halfgates_c.specs.Holding.{OfGarbling, OfKept};
 ghost use Rattle.halfgates_c.specs.Reading.{HoldsGarbling, HoldsGarblingFrom};
 
 use crate::code::{NULL_POINTER, code_of};
 use crate::handle::{Handle, on_held};
 use crate::null::is_null;
 use crate::slot::Slot;
-use gc_kept::{Held, KeptCircuit, KeptFault};
+use gc_kept::{Held, KeptCircuit, KeptFault, StartBytes};
 use std::alloc::Global;
 
 /// Garbles a circuit, and hands the garbling out.
@@ -29,7 +29,6 @@ fn garble(
     ensures kept { OnErr result (slot.new ≡ slot.old) }
 {
     let garbling = circuit.garble(alloc, seed)?;
-    garbling.law_garbled();
     slot.hand_out(alloc, Held::Garbling(garbling))
 }
 
@@ -43,7 +42,7 @@ pub extern "C" fn halfgates_garble(
 ) -> i32
     requires seed { Testable (as_ptr seed) }
     requires garbling { Testable (as_mut_ptr garbling) }
-    ensures answer { OfCircuit circuit.old.held result (λ c.
+    ensures answer { OfKept circuit.old.held result (λ c.
         Answers result (HoldsGarbling c seed.now garbling.new) IsWantOfMemory) }
     ensures back { circuit.new ≡ circuit.old }
     ensures kept { result ≢ pos 0 → garbling.new ≡ garbling.old }
@@ -60,18 +59,16 @@ pub extern "C" fn halfgates_garble(
 fn garble_from(
     alloc: Global,
     circuit: &KeptCircuit,
-    offset: &[u8; 16],
-    zero_labels: &[u8],
-    first: u64,
+    start: StartBytes<'_>,
     slot: &mut Slot,
 ) -> Result<(), KeptFault>
-    ensures ok { OnOk result
-        (HoldsGarblingFrom circuit.now offset.now zero_labels.now first slot.new) }
-    ensures fault { IfErr result
-        (HasFromLabelsFault circuit.now offset.now zero_labels.now first) }
+    ensures ok { OnOk result (HoldsGarblingFrom circuit.now
+        start.entry.offset.now start.entry.zero_labels.now start.entry.first slot.new) }
+    ensures fault { IfErr result (HasFromLabelsFault circuit.now.netlist
+        start.entry.offset.now start.entry.zero_labels.now start.entry.first) }
     ensures kept { OnErr result (slot.new ≡ slot.old) }
 {
-    let garbling = circuit.garble_from(alloc, offset, zero_labels, first)?;
+    let garbling = circuit.garble_from(alloc, start)?;
     slot.hand_out(alloc, Held::Garbling(garbling))
 }
 
@@ -87,17 +84,22 @@ pub extern "C" fn halfgates_garble_from(
 ) -> i32
     requires offset { Testable (as_ptr offset) }
     requires garbling { Testable (as_mut_ptr garbling) }
-    ensures answer { OfCircuit circuit.old.held result (λ c.
+    ensures answer { OfKept circuit.old.held result (λ c.
         Answers result (HoldsGarblingFrom c offset.now zero_labels.now first garbling.new)
-        (HasFromLabelsFault c offset.now zero_labels.now first)) }
+        (HasFromLabelsFault c.netlist offset.now zero_labels.now first)) }
     ensures back { circuit.new ≡ circuit.old }
     ensures kept { result ≢ pos 0 → garbling.new ≡ garbling.old }
 {
     if is_null(offset) || is_null(garbling) {
         return NULL_POINTER;
     }
+    let start = StartBytes {
+        offset,
+        zero_labels,
+        first,
+    };
     on_held!(circuit, Circuit(circuit) => {
-        code_of(garble_from(alloc, circuit, offset, zero_labels, first, garbling))
+        code_of(garble_from(alloc, circuit, start, garbling))
     })
 }
 

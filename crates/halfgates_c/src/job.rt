@@ -1,36 +1,36 @@
 //! Jobs.
 
-ghost use Rattle.std.specs.Prelude.{◌≡◌, ◌≢◌, OnOk, OnErr, IfErr, pos, length};
+ghost use Rattle.std.specs.Prelude.{◌≡◌, ◌≢◌, IfErr, IsTrue, OnErr, OnOk, length, pos};
 ghost use Rattle.core.specs.Ptr.{as_mut_ptr};
 ghost use denote.RawPtr.{Testable};
-ghost use Rattle.gc_kept.specs.Job.{HasKeptJobFault, AreEvaluated, HasEvaluationFault};
+ghost use Rattle.gc_kept.specs.Job.{HasBindingFault, HasKeptJobFault, AreEvaluated, HasEvaluationFault};
 ghost use Rattle.gc_kept.specs.Labels.{AreJobLabels, HasJobLabelsFault};
 ghost use Rattle.halfgates_c.specs.Answers.{Answers};
-ghost use Rattle.halfgates_c.specs.Holding.{OfCircuit, OfJob};
+ghost use Rattle.halfgates_c.specs.Holding.{OfDigested, OfJob};
 ghost use Rattle.halfgates_c.specs.Reading.{HoldsJob};
 
 use crate::code::{NULL_POINTER, code_of};
 use crate::handle::{Handle, on_held};
 use crate::null::is_null;
 use crate::slot::Slot;
-use gc_kept::{Held, KeptCircuit, KeptFault};
+use gc_kept::{Held, JobFiles, KeptCircuit, KeptFault};
 use std::alloc::Global;
 
 /// Binds files to a job of a circuit, and hands it out.
 fn bind(
     alloc: Global,
     circuit: &KeptCircuit,
-    garbled: &[u8],
-    labels: &[u8],
-    lengths: &[usize],
+    files: JobFiles<'_>,
     slot: &mut Slot,
 ) -> Result<(), KeptFault>
-    ensures ok { OnOk result
-        (HoldsJob circuit.now garbled.now labels.now lengths.now slot.new) }
-    ensures fault { IfErr result (HasKeptJobFault circuit.now garbled.now labels.now lengths.now) }
+    ensures digest { OnOk result (IsTrue circuit.now.has_digest) }
+    ensures ok { OnOk result (HoldsJob circuit.now.netlist files.entry.garbled.now
+        files.entry.labels.now files.entry.lengths.now slot.new) }
+    ensures fault { IfErr result (HasBindingFault circuit.now
+        files.entry.garbled.now files.entry.labels.now files.entry.lengths.now) }
     ensures kept { OnErr result (slot.new ≡ slot.old) }
 {
-    let job = circuit.bind(alloc, garbled, labels, lengths)?;
+    let job = circuit.bind(alloc, files)?;
     slot.hand_out(alloc, Held::Job(job))
 }
 
@@ -45,7 +45,7 @@ pub extern "C" fn halfgates_job_bind(
     job: &mut Slot,
 ) -> i32
     requires job { Testable (as_mut_ptr job) }
-    ensures answer { OfCircuit circuit.old.held result (λ c.
+    ensures answer { OfDigested circuit.old.held result (λ c.
         Answers result (HoldsJob c garbled.now labels.now lengths.now job.new)
         (HasKeptJobFault c garbled.now labels.now lengths.now)) }
     ensures back { circuit.new ≡ circuit.old }
@@ -54,9 +54,12 @@ pub extern "C" fn halfgates_job_bind(
     if is_null(job) {
         return NULL_POINTER;
     }
-    on_held!(circuit, Circuit(circuit) => {
-        code_of(bind(alloc, circuit, garbled, labels, lengths, job))
-    })
+    let files = JobFiles {
+        garbled,
+        labels,
+        lengths,
+    };
+    on_held!(circuit, Circuit(circuit) => code_of(bind(alloc, circuit, files, job)))
 }
 
 /// Frees a job. Null is allowed.

@@ -7,6 +7,7 @@
 mod arrays;
 mod audit;
 mod audit_labels;
+mod audit_rows;
 mod borrow;
 mod box_parts;
 mod circuit;
@@ -35,6 +36,7 @@ mod wires;
 
 pub use audit::Report;
 pub use audit_labels::LabelsReport;
+pub use audit_rows::RowsReport;
 pub use circuit::Numbers;
 pub use explain::Sentence;
 pub use handle::Handle;

@@ -2,14 +2,15 @@
 
 ghost use Rattle.std.specs.Prelude.{◌≡◌, ◌≢◌, IfErr, IfOk, OnErr, OnOk, length, pos};
 ghost use Rattle.std.specs.List.{AllZip};
+ghost use Rattle.gc_kept.specs.Garbling.{IsWantOfMemory};
 ghost use Rattle.halfgates_c.specs.Answers.{Answers};
-ghost use Rattle.halfgates_c.specs.Holding.{OfCircuit};
+ghost use Rattle.halfgates_c.specs.Holding.{OfKept};
 ghost use Rattle.halfgates_c.specs.Reading.{HasManyFault, HoldsGarbling, HoldsThis};
 
 use crate::code::code_of;
 use crate::handle::{Handle, on_held};
 use crate::slot::Slot;
-use gc_kept::{Held, KeptCircuit, KeptFault, KeptGarbling};
+use gc_kept::{Held, KeptCircuit, KeptFault, KeptGarbling, Pace};
 use std::alloc::Global;
 use std::mem;
 
@@ -41,41 +42,57 @@ fn give(mut handles: Vec<Slot, Global>, slots: &mut [Slot])
     }
 }
 
-/// Garbles a circuit under each seed, and hands the garblings out: all of them or none.
+/// Garbles a circuit under each seed, and makes a handle of each garbling.
 fn garble_many(
     alloc: Global,
     circuit: &KeptCircuit,
     seeds: &[[u8; 32]],
-    slots: &mut [Slot],
-) -> Result<(), KeptFault>
-    ensures ok { OnOk result (AllZip (HoldsGarbling circuit.now) seeds.now slots.new) }
-    ensures fault { IfErr result (HasManyFault (length seeds.now) (length slots.old)) }
+    pace: Pace,
+) -> Result<Vec<Slot, Global>, KeptFault>
+    ensures ok { IfOk result (λ handles.
+        AllZip (HoldsGarbling circuit.now) seeds.now handles.items) }
+    ensures fault { IfErr result IsWantOfMemory }
+{
+    let garblings = circuit.garble_many(alloc, seeds, pace)?;
+    handles_of(alloc, garblings)
+}
+
+/// Hands out the handles, all of them or none. It refuses another number of pointers (60).
+fn hand_out(handles: Vec<Slot, Global>, slots: &mut [Slot]) -> Result<(), KeptFault>
+    ensures ok { OnOk result (slots.new ≡ handles.items) }
+    ensures fault { IfErr result (λ fault.
+        (fault ≡ KeptFault.BadArgument) × (length handles.items ≢ length slots.old)) }
     ensures kept { OnErr result (slots.new ≡ slots.old) }
 {
-    if slots.len() != seeds.len() {
+    if handles.len() != slots.len() {
         return Err(KeptFault::BadArgument);
     }
-    let garblings = circuit.garble_many(alloc, seeds)?;
-    let handles = handles_of(alloc, garblings)?;
     give(handles, slots);
     Ok(())
 }
 
-/// Garbles a circuit under each of these seeds.
+/// Garbles a circuit under each of these seeds, two at a time where `side_by_side` isn't 0.
 #[unsafe(no_mangle)]
 pub extern "C" fn halfgates_garble_many(
     alloc: Global,
     circuit: &mut Handle,
     seeds: &[[u8; 32]],
+    side_by_side: i32,
     garblings: &mut [Slot],
 ) -> i32
-    ensures answer { OfCircuit circuit.old.held result (λ c.
+    ensures answer { OfKept circuit.old.held result (λ c.
         Answers result (AllZip (HoldsGarbling c) seeds.now garblings.new)
         (HasManyFault (length seeds.now) (length garblings.old))) }
     ensures back { circuit.new ≡ circuit.old }
     ensures kept { result ≢ pos 0 → garblings.new ≡ garblings.old }
 {
-    on_held!(circuit, Circuit(circuit) => {
-        code_of(garble_many(alloc, circuit, seeds, garblings))
+    let pace = if side_by_side == 0 {
+        Pace::One
+    } else {
+        Pace::Two
+    };
+    on_held!(circuit, Circuit(circuit) => match garble_many(alloc, circuit, seeds, pace) {
+        Ok(handles) => code_of(hand_out(handles, garblings)),
+        Err(fault) => code_of(Err(fault)),
     })
 }

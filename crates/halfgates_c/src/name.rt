@@ -72,6 +72,7 @@ fn code_name(code: i32) -> &'static str
         65 => "WrongHandle",
         66 => "WrongSize",
         67 => "Unfinished",
+        68 => "NoDigest",
         _ => "Unknown",
     }
 }

@@ -1,19 +1,22 @@
-use Rattle.std.proofs.Common.{◌≡◌, ℕ, List, Result, Ok, Err, IfErr, subst, sym}
-use Rattle.gc_netlist.specs.Circuit.{Netlist}
+use Rattle.std.proofs.Common.{◌≡◌, ℕ, inr, List, Result, Ok, Err, IfErr, IsTrue, subst, sym}
 use Rattle.gc_kept.specs.declared.fault.KeptFault.{KeptFault}
 use Rattle.gc_kept.specs.declared.fault.KeptFault.TheVariants.{Memory}
-use Rattle.gc_kept.specs.Job.{HasKeptJobFault, want}
+use Rattle.gc_kept.specs.Circuit.{CircuitWith}
+use Rattle.gc_kept.specs.Job.{HasBindingFault, HasKeptJobFault, want}
 use Rattle.halfgates_c.proofs.job.bind.Goals as goal
 
 -- Memory may be missing for the handle too.
-wanting : {T : Type 0} (c : Netlist) (garbled labels lengths : List ℕ) (r : Result T KeptFault)
-    → IfErr r (λ fault. fault ≡ Memory) → IfErr r (HasKeptJobFault c garbled labels lengths)
-wanting c garbled labels lengths (Ok x) so = tt
-wanting c garbled labels lengths (Err fault) so = subst (HasKeptJobFault c garbled labels lengths)
-    (sym so) want
+wanting : {T : Type 0} (c : CircuitWith) (garbled labels lengths : List ℕ) (r : Result T KeptFault)
+    → IsTrue c.has_digest → IfErr r (λ fault. fault ≡ Memory)
+    → IfErr r (HasBindingFault c garbled labels lengths)
+wanting c garbled labels lengths (Ok x) taken so = tt
+wanting c garbled labels lengths (Err fault) taken so = inr (
+  taken,
+  subst (HasKeptJobFault c.netlist garbled labels lengths) (sym so) want,
+)
 
 pub returns-clause-fault : goal.returns-clause-fault
 returns-clause-fault c =
-    wanting c.args.circuit.now c.args.garbled.now c.args.labels.now c.args.lengths.now
-    c.hand_out.result
-    c.hand_out.ensures.fault
+    wanting c.args.circuit.now c.args.files.garbled.now c.args.files.labels.now
+    c.args.files.lengths.now
+    c.hand_out.result c.in_ok-job.ensures.digest c.hand_out.ensures.fault

@@ -24,7 +24,7 @@ zero_labels-requires c =
       c.first_wire-first.ensures,
       c.len.ensures,
       ap (λ (n : Netlist). sum (take c.args.index n.input_widths)) c.circuit.ensures.same,
-      first_wire-room c.args.self.now c.circuit.ensures.lawful c.args.index (length bits)
+      first_wire-room c.args.self.now.netlist c.circuit.ensures.lawful c.args.index (length bits)
           c.in_ok-bits.ensures.width,
     )
 
@@ -78,7 +78,7 @@ write_file-requires-clause-few c =
 
 pub returns-clause-ok : goal.returns-clause-ok
 returns-clause-ok c =
-    let circuit = c.args.self.now in
+    let circuit = c.args.self.now.netlist in
     let index = c.args.index in
     let bits = c.in_ok-bits.bits.items in
     let seed = c.args.seed.now in

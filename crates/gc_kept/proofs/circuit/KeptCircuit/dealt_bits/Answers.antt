@@ -24,11 +24,11 @@ returns-in_err-look_for_room-clause-fault c = λ offset zero_label.
     let bits = c.in_ok-bits.bits.items in
     let p = err_from_is_err_and c.from_residual-in_err-look_for_room.result
     c.from_residual-in_err-look_for_room.ensures.1 in
-    let file = label_file (label_parts_with a.self.now offset zero_label a.index bits) in
+    let file = label_file (label_parts_with a.self.now.netlist offset zero_label a.index bits) in
     let size : 16 + 16 * c.in_ok-width.width ≡ length file =
     omega (
       arith,
-      length-dealt a.self.now offset zero_label a.index bits,
+      length-dealt a.self.now.netlist offset zero_label a.index bits,
       c.in_ok-bits.ensures.count,
     ) in
     rw (p.1, p.2) (of_file bits c.in_err-look_for_room.field-0.0 c.in_ok-bits.ensures.bytes

@@ -11,7 +11,7 @@ write_labels-requires-clause-whole c =
       arith,
       begun.begun.used,
       uses.used,
-      length-rows uses.piece c.args.rows.now (sym uses.piece_is.spelled),
+      length-rows uses.piece c.args.given.rows.now (sym uses.piece_is.spelled),
       ap and_count uses.circuit,
       ap and_count begun.circuit,
       ap and_count c.circuit-circuit.ensures.same,

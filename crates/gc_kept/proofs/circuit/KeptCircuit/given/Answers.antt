@@ -7,6 +7,6 @@ pub returns-clause-count : goal.returns-clause-count
 returns-clause-count c =
     omega (
       arith,
-      length-labels c.in-Ok.labels.items c.args.zero_labels.now c.in-Ok.ensures.bytes,
+      length-labels c.in-Ok.labels.items c.args.start.zero_labels.now c.in-Ok.ensures.bytes,
       ap input_wires c.circuit-circuit.ensures.same,
     )

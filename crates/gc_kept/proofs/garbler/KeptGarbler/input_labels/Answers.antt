@@ -9,7 +9,7 @@ use Rattle.gc_kept.proofs.garbler.KeptGarbler.input_labels.Goals as goal
 pub returns-clause-ok : goal.returns-clause-ok
 returns-clause-ok c =
     let found = c.in-Some.ensures.lookup in
-    let circuit = c.self.inside.circuit in
+    let circuit = c.self.inside.circuit.netlist in
     let index = c.args.index in
     let width = c.in-Some.width.now in
     let at : slice_get circuit.input_widths index ≡ Some width =
@@ -31,7 +31,7 @@ returns-clause-ok c =
 pub returns-clause-fault : goal.returns-clause-fault
 returns-clause-fault c =
     let found = c.in-Some.ensures.lookup in
-    let circuit = c.self.inside.circuit in
+    let circuit = c.self.inside.circuit.netlist in
     let index = c.args.index in
     let width = c.in-Some.width.now in
     let at : slice_get circuit.input_widths index ≡ Some width =

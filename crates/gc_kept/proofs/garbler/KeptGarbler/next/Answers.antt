@@ -7,8 +7,8 @@ use Rattle.gc_kept.proofs.garbler.KeptGarbler.next.Goals as goal
 pub returns-clause-ok : goal.returns-clause-ok
 returns-clause-ok c =
     let is = c.self.invariant in
-    let few : c.self.inside.garbler.made ≤ and_count c.self.inside.circuit =
-    garbler-few c.self.inside.circuit is.given is.rows _ is.so_far in
+    let few : c.self.inside.garbler.made ≤ and_count c.self.inside.circuit.netlist =
+    garbler-few c.self.inside.circuit.netlist is.given is.rows _ is.so_far in
     record {
       makes = c.write_next.ensures.makes;
       most = c.write_next.ensures.most;

@@ -10,7 +10,7 @@ use Rattle.gc_kept.proofs.garbler.KeptGarbler.output_labels.Goals as goal
 pub returns-clause-ok : goal.returns-clause-ok
 returns-clause-ok c =
     let found = c.in-Some.ensures.lookup in
-    let circuit = c.self.inside.circuit in
+    let circuit = c.self.inside.circuit.netlist in
     let index = c.args.index in
     let width = c.in-Some.width.now in
     let widths = rw c.circuit-circuit.ensures.same at c.output_widths-widths.ensures in
@@ -36,7 +36,7 @@ returns-clause-ok c =
 pub returns-clause-fault : goal.returns-clause-fault
 returns-clause-fault c =
     let found = c.in-Some.ensures.lookup in
-    let circuit = c.self.inside.circuit in
+    let circuit = c.self.inside.circuit.netlist in
     let index = c.args.index in
     let width = c.in-Some.width.now in
     let widths = rw c.circuit-circuit.ensures.same at c.output_widths-widths.ensures in

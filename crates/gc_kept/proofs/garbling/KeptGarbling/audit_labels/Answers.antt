@@ -4,7 +4,6 @@ use Rattle.gc_kept.proofs.garbling.KeptGarbling.audit_labels.Goals as goal
 
 pub returns-in-Ok-clause-ok : goal.returns-in-Ok-clause-ok
 returns-in-Ok-clause-ok c = record {
-  from_zero = c.is_from_zero.ensures.0 c.if-not-is_from_zero.false;
   parts = c.in_ok-file.file;
   file = c.in_ok-file.ensures;
   index_is = c.index.ensures;

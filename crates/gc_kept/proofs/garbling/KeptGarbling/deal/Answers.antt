@@ -11,7 +11,7 @@ use Rattle.gc_kept.proofs.garbling.KeptGarbling.deal.Goals as goal
 pub returns-in_err-bits-clause-fault : goal.returns-in_err-bits-clause-fault
 returns-in_err-bits-clause-fault c =
     let p = err_from_is_err_and c.from_residual.result c.from_residual.ensures.1 in
-    rw (p.1, p.2, ← c.circuit-circuit.ensures) (c.in_err-bits.ensures.fault c.args.self.now.offset
+    rw (p.1, p.2, ← c.circuit-circuit.ensures.netlist) (c.in_err-bits.ensures.fault c.args.self.now.offset
     (slice_index c.args.self.now.garbling.zero_labels))
 
 pub returns-in_err-labels-clause-fault : goal.returns-in_err-labels-clause-fault
@@ -19,12 +19,12 @@ returns-in_err-labels-clause-fault c =
     let p = err_from_is_err_and c.from_residual-in_err-labels.result
     c.from_residual-in_err-labels.ensures.1 in
     rw (p.1, p.2) (of_file c.in_ok-bits.bits.items Memory c.in_ok-bits.ensures.bytes
-    (rw c.circuit-circuit.ensures at c.in_ok-bits.ensures.width) tt)
+    (rw c.circuit-circuit.ensures.netlist at c.in_ok-bits.ensures.width) tt)
 
 pub input_zero_labels-zero_labels-requires : goal.input_zero_labels-zero_labels-requires
 input_zero_labels-zero_labels-requires c =
     let long : c.len.result ≡ length c.in_ok-bits.bits.items = omega (arith, c.len.ensures) in
-    rw long (rw c.circuit-circuit.ensures at c.in_ok-bits.ensures.width)
+    rw long (rw c.circuit-circuit.ensures.netlist at c.in_ok-bits.ensures.width)
 
 pub encoded-requires : goal.encoded-requires
 encoded-requires c =
@@ -76,7 +76,7 @@ returns-clause-ok c =
     record {
       bits = bits;
       bytes_are = c.in_ok-bits.ensures.bytes;
-      width = (rw c.circuit-circuit.ensures at c.in_ok-bits.ensures.width);
+      width = (rw c.circuit-circuit.ensures.netlist at c.in_ok-bits.ensures.width);
       file = (rw (labels, offset) at c.write_file.ensures.file);
       count = omega (
         arith,

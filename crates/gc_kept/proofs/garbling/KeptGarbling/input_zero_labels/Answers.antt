@@ -7,16 +7,16 @@ pub zero_labels_from-requires : goal.zero_labels_from-requires
 zero_labels_from-requires c =
     let g = c.args.self.now in
     let from = c.first_wire-from.ensures ∙ ap (λ n. first_wire_of n c.args.index)
-    (c.circuit-2.ensures.same ∙ c.circuit.ensures) in
+    (c.circuit-2.ensures.same ∙ c.circuit.ensures.netlist) in
     omega (
       arith,
       from,
-      input-fits g.circuit (rw c.circuit.ensures at c.circuit-2.ensures.lawful) g.garbling
+      input-fits g.circuit (rw c.circuit.ensures.netlist at c.circuit-2.ensures.lawful) g.garbling
           c.law_garbled.ensures.wires c.args.index c.args.width c.requires,
     )
 
 pub returns-clause-labels : goal.returns-clause-labels
 returns-clause-labels c =
     let from = c.first_wire-from.ensures ∙ ap (λ n. first_wire_of n c.args.index)
-    (c.circuit-2.ensures.same ∙ c.circuit.ensures) in
+    (c.circuit-2.ensures.same ∙ c.circuit.ensures.netlist) in
     (rw from at c.zero_labels_from.ensures.labels)

@@ -15,7 +15,7 @@ returns-then-not-are_right-clause-fault c =
     let bytes = c.args.labels.now in
     let width = c.in_ok-width.width in
     let zeros = c.output_zero_labels-zero_labels in
-    let at = rw c.circuit.ensures at c.in_ok-width.ensures.ok in
+    let at = rw c.circuit.ensures.netlist at c.in_ok-width.ensures.ok in
     let long : length bytes ≡ 16 * width =
     c.if-labels-zero_labels.false ∙ ap (λ n. 16 * n) zeros.ensures.count in
     let active = labels_spelled bytes width long (λ i. omega (arith, c.type_inv.labels i)) in
@@ -35,7 +35,7 @@ returns-clause-ok c =
     let bytes = c.args.labels.now in
     let width = c.in_ok-width.width in
     let zeros = c.output_zero_labels-zero_labels in
-    let at = rw c.circuit.ensures at c.in_ok-width.ensures.ok in
+    let at = rw c.circuit.ensures.netlist at c.in_ok-width.ensures.ok in
     let long : length bytes ≡ 16 * width =
     c.if-labels-zero_labels.false ∙ ap (λ n. 16 * n) zeros.ensures.count in
     let active = labels_spelled bytes width long (λ i. omega (arith, c.type_inv.labels i)) in

@@ -2,8 +2,8 @@ use Rattle.std.proofs.Common.{◌≡◌, ◌+◌, ◌*◌, length, take, ◌/◌
 use Rattle.std.specs.List.{AllZip}
 use Rattle.gc_kept.specs.Garbling.{IsGarblingUnder}
 use Rattle.gc_kept.proofs.ManyLemmas.{all_more, two_more, all_ended}
-use Rattle.gc_kept.proofs.circuit.KeptCircuit.garble_many.Goals as goal
-use Rattle.gc_kept.proofs.circuit.KeptCircuit.garble_many.Goals.{then-pairs-seeds+in_ok-garble+in_ok-push-3, else-pairs-seeds}
+use Rattle.gc_kept.proofs.circuit.KeptCircuit.garble_pairs.Goals as goal
+use Rattle.gc_kept.proofs.circuit.KeptCircuit.garble_pairs.Goals.{then-pairs-seeds+in_ok-garble+in_ok-push-3, else-pairs-seeds}
 
 pub loop-i-preserved : goal.loop-i-preserved
 loop-i-preserved c =
@@ -25,17 +25,11 @@ returns-clause-ok c =
     rw (← place) c.loop-i.invariant in
     elim c.if-pairs-seeds.branch [
       | then-pairs-seeds+in_ok-garble+in_ok-push-3 w ↦
-          let made = w.in_ok-garble.ensures in
           rw (w.made-is, w.in_ok-push-3.ensures.items)
           (all_ended under seeds _ (2 * (length seeds / 2) + 1) (omega arith)
           (all_more under seeds c.loop-i.made.items (2 * (length seeds / 2)) [] _
           w.in_ok-garble.field-0 (omega (arith, w.if-pairs-seeds.true)) refl before
-          (record {
-            circuit = made.circuit;
-            offset = made.offset;
-            first = made.first;
-            garbled = made.garbled;
-          })))
+          w.in_ok-garble.ensures.ok))
       | else-pairs-seeds w ↦ rw w.made-is
           (all_ended under seeds c.loop-i.made.items (2 * (length seeds / 2))
           (omega (arith, w.if-pairs-seeds.false)) before)
