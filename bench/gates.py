@@ -1,10 +1,9 @@
 #!/usr/bin/env python3
-"""Times how long the library takes to read SHA-256's compression, 8 times, and to make it of an array of gates, with its
-digest and without, in nanoseconds a gate.
+"""Times reading SHA-256's compression, 8 times, and making it of an array of gates, with its digest and without.
 
   gates.py LIBRARY
 
-The calls run in turns, and the fastest run counts.
+It prints nanoseconds a gate. The calls run in turns, and the fastest run counts.
 """
 
 import os
