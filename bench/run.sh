@@ -41,4 +41,5 @@ tune_memory
 "$top/bench/program.py" "$top/halfgates" "$bench" "$circuit"
 "$top/bench/commands.py" "$top/halfgates" "$bench"
 "$top/bench/library.py" "$top/halfgates" "$bench" "$library"
+"$top/bench/gates.py" "$library"
 "$top/bench/streaming.py" "$library"

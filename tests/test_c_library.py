@@ -123,6 +123,12 @@ class FromC(LibraryTest):
     def test_gates(self):
         self.run_built(SOURCES / "gates.c")
 
+    def test_digests(self):
+        self.run_built(SOURCES / "digests.c")
+
+    def test_rows(self):
+        self.run_built(SOURCES / "rows.c")
+
     def test_labels(self):
         self.run_built(SOURCES / "labels.c")
 
@@ -228,6 +234,8 @@ MISUSES = {
     "outputs dropped": "circuit.plain({1, 1});",
     "a garbling dropped": "circuit.garble(halfgates::seed::random());",
     "a garbler dropped": "circuit.garbler(halfgates::seed::random());",
+    "an audit dropped": "circuit.garble(halfgates::seed::random()).audit_rows({}, {});",
+    "a circuit without its digest dropped": 'halfgates::circuit::read_without_digest("");',
     "how much was taken dropped": "circuit.evaluator(0, {}).feed({});",
     "a copy of a garbler": "halfgates::garbler one; halfgates::garbler other = one;",
     "a copy of a handle": "halfgates::circuit other = circuit;",

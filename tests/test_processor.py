@@ -33,7 +33,7 @@ OF_X86 = unittest.skipUnless(platform.machine() == "x86_64", "the library for th
 IS_V3 = int(3 in LEVELS)
 
 # Tests that the older code passes on any processor.
-SUITES = "test_python_labels", "test_python_library"
+SUITES = "test_python_digests", "test_python_labels", "test_python_library"
 
 # A proved call as objdump prints it, by its level and name, and an instruction of AVX.
 CALL = re.compile(r"^\w+ <(v[23])_(halfgates_\w+)>:\n((?: .*\n)*)", re.M)

@@ -60,6 +60,7 @@ class Owners(unittest.TestCase):
         self.gates = array("I", [number for gate in gates for number in gate])
         self.makers = {
             "circuit": lambda: Circuit.read(LARGE),
+            "circuit without its digest": lambda: Circuit.read(LARGE, digest=False),
             "garbling": lambda: self.circuit.garble(SEED),
             "garbling of many": lambda: self.circuit.garble_many([SEED])[0],
             "job": lambda: self.circuit.bind(self.garbled, self.files),
@@ -124,7 +125,7 @@ class Owners(unittest.TestCase):
 
         with ExitStack() as stack:
             made = "circuit_read", "circuit_from_gates", "garble", "garble_many", "job_bind", "garbler_begin"
-            for name in (*made, "evaluator_begin"):
+            for name in (*made, "evaluator_begin", "circuit_read_without_digest"):
                 stack.enter_context(patched(name, interrupted))
             self.assert_keeps_no_memory(use)
 

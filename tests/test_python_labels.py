@@ -193,12 +193,11 @@ class Refusals(LabelsTest):
 
     def test_a_first_number_other_than_0_has_no_files(self):
         with self.circuit.garble_from(self.offset, self.zeros) as garbling:
-            file, labels = garbling.write(), garbling.deal(0, [1])
+            file = garbling.write()
         with self.circuit.garble_from(self.offset, self.zeros, 1) as garbling:
             for version in (1, 2):
                 self.assert_fault("60 BadArgument", garbling.write, version)
             self.assert_fault("60 BadArgument", garbling.audit, file)
-            self.assert_fault("60 BadArgument", garbling.audit_labels, labels)
 
     def test_evaluating(self):
         with self.circuit.garble_from(self.offset, self.zeros) as garbling:

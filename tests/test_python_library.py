@@ -601,10 +601,11 @@ job = circuit.bind(garbled, labels)
 bits, labels, sizes = bytes([1, 1, 1]), b"".join(labels), (c_size_t * 3)(32, 32, 32)
 offset, room, written, handle = bytes([1] * 16), create_string_buffer(512), c_size_t(), c_void_p()
 wires, place, sentence = (_library.WireLabels * 8)(), _library.Place(), _library.Sentence()
-report, labels_report = _library.AuditReport(), _library.LabelsReport()
+report, rows_report, labels_report = _library.AuditReport(), _library.RowsReport(), _library.LabelsReport()
 null = None, 1
 for name, *words in [
     ("circuit_read", *null, byref(handle)),
+    ("circuit_read_without_digest", *null, byref(handle)),
     ("circuit_input_widths", circuit, *null),
     ("circuit_output_widths", circuit, *null),
     ("locate", *null, place),
@@ -643,6 +644,8 @@ for name, *words in [
     ("decode", room, 16, *null, room, 1),
     ("decode", room, 16, bits, 1, *null),
     ("audit", garbling, *null, report),
+    ("audit_rows", garbling, *null, bits, 2, rows_report),
+    ("audit_rows", garbling, room, 32, *null, rows_report),
     ("audit_labels", garbling, *null, room, 1, labels_report),
     ("audit_labels", garbling, labels, 32, *null, labels_report),
 ]:

@@ -91,6 +91,7 @@ class Sizes(unittest.TestCase):
         self.assert_says(66, "rows has 33 bytes, and 32 are expected", evaluate, bytes(33), bytes(47))
         self.assert_says(66, "labels has 47 bytes, and 48 are expected", evaluate, bytes(32), bytes(47))
         self.assert_says(66, "labels has 16 bytes, and 32 are expected", self.garbling.open, 0, bytes(16))
+        self.assert_says(66, "rows has 31 bytes, and 32 are expected", self.garbling.audit_rows, bytes(31), [0, 1])
         self.assert_says(66, "labels has 32 bytes, and 48 are expected", halfgates.decode, bytes(32), [0, 1, 1])
 
     def test_too_little_room(self):

@@ -27,7 +27,7 @@ from ._codes import Code
 from ._handles import Circuit, Garbling, Job, decode
 from ._library import Fault, MemoryFault, is_memory, version
 from ._lists import evaluate_each, evaluate_many, write_many
-from ._reports import GarbledReport, GateFault, LabelsReport, Place, WireLabels
+from ._reports import GarbledReport, GateFault, LabelsReport, Place, RowsReport, WireLabels
 from ._streaming import Evaluator, Garbler
 from ._texts import explain, locate
 
@@ -51,6 +51,7 @@ __all__ = [
     "MemoryFault",
     "Operation",
     "Place",
+    "RowsReport",
     "WireLabels",
     "decode",
     "evaluate_each",

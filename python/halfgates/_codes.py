@@ -71,6 +71,7 @@ class Code(IntEnum):
         67,
         "row pairs are left: a garbler hasn't made all of them, or an evaluator hasn't taken all of them",
     )
+    NO_DIGEST = 68, "the circuit has no digest, which this call needs"
 
 
 #: The faults that are about a wire.

@@ -15,7 +15,7 @@ from ._buffers import Lent
 from ._codes import Code
 from ._handle import Handle, Shape, offset_of, owner, pairs_of, width_of
 from ._library import Fault, check, library
-from ._reports import GarbledReport, GateFault, LabelsReport, WireLabels
+from ._reports import GarbledReport, GateFault, LabelsReport, RowsReport, WireLabels
 from ._streaming import Evaluator, Garbler
 from ._texts import check_text
 
@@ -27,64 +27,93 @@ class Circuit(Handle):
     """
 
     _Owner = owner(library.halfgates_circuit_free)
+    _digest: Optional[bytes]
 
     gates: int  #: how many gates there are
     and_gates: int  #: how many of them are AND gates, so how many row pairs a garbling has
     wires: int  #: how many wires there are
     input_widths: Tuple[int, ...]  #: the number of wires of each input value
     output_widths: Tuple[int, ...]  #: the number of wires of each output value
-    digest: bytes  #: the SHA-256 of the circuit's canonical text
 
     @classmethod
-    def read(cls, text: Buffer) -> "Circuit":
-        """Reads a circuit from its text in Bristol Fashion, and takes its digest.
+    def read(cls, text: Buffer, *, digest: bool = True) -> "Circuit":
+        """Reads a circuit from its text in Bristol Fashion, and takes its digest unless it is told not to.
 
-        Faults: 1 to 12, which say the line, the column and the sentence of `explain`, 13, 62.
+        Taking it takes longer than reading. Garbled files and jobs need it: see `take_digest`. Faults: 1 to 12, which
+        say the line, the column and the sentence of `explain`, 13, 62.
         """
         it = cls._empty()
+        read = library.halfgates_circuit_read if digest else library.halfgates_circuit_read_without_digest
         with Lent(text) as lent:
-            check_text(library.halfgates_circuit_read(lent.at, lent.size, byref(it._at)), lent)
+            check_text(read(lent.at, lent.size, byref(it._at)), lent)
         it._measure()
         return it
 
     @classmethod
-    def open(cls, path: "Union[str, PathLike[str]]") -> "Circuit":
+    def open(cls, path: "Union[str, PathLike[str]]", *, digest: bool = True) -> "Circuit":
         """Reads a circuit from a file. A file that can't be read raises OSError. Faults as of `read`."""
-        return cls.read(Path(path).read_bytes())
+        return cls.read(Path(path).read_bytes(), digest=digest)
 
     @classmethod
-    def from_text(cls, text: str) -> "Circuit":
+    def from_text(cls, text: str, *, digest: bool = True) -> "Circuit":
         """Reads a circuit from a string. Faults as of `read`."""
         if not isinstance(text, str):
             raise TypeError(f"a text is a str, and not a {type(text).__name__}: Circuit.read takes bytes")
-        return cls.read(text.encode())
+        return cls.read(text.encode(), digest=digest)
 
     @classmethod
     def from_gates(
-        cls, gates: Gates, wires: int, input_widths: Iterable[int], output_widths: Iterable[int]
+        cls,
+        gates: Gates,
+        wires: int,
+        input_widths: Iterable[int],
+        output_widths: Iterable[int],
+        *,
+        digest: bool = True,
     ) -> "Circuit":
         """The circuit of these gates in this order, of this many wires, and of values of these widths.
 
         Gates are `Gate` tuples, or a buffer of four numbers of 32 bits a gate, such as an `array("I")` or a NumPy array
-        of uint32. The circuit is the one that `read` makes of their text, with the same faults: 2, 3, 5 to 10 and 12 as
-        a `GateFault`, 13, 62. A number that has more than 32 bits raises OverflowError.
+        of uint32. The circuit is the one that `read` makes of their text, with its digest or without, and with the same
+        faults: 2, 3, 5 to 10 and 12 as a `GateFault`, 13, 62. A number that has more than 32 bits raises OverflowError.
         """
+        make = library.halfgates_circuit_from_gates if digest else library.halfgates_circuit_from_gates_without_digest
         it, place, wires = cls._empty(), _library.Place(), u32(wires)
         inputs, outputs = numbers_of(input_widths), numbers_of(output_widths)
         with lent_gates(gates) as lent, Lent(inputs) as widths, Lent(outputs) as others:
             words = lent.at, lent.size // GATE, wires, widths.at, len(inputs), others.at, len(outputs)
-            code = library.halfgates_circuit_from_gates(*words, byref(it._at), byref(place))
+            code = make(*words, byref(it._at), byref(place))
         if code == place.fault != Code.OK:
             raise GateFault._of(place)
         check(code)
         it._measure()
         return it
 
+    @property
+    def digest(self) -> bytes:
+        """The SHA-256 of the circuit's canonical text. Fault 68: it wasn't taken."""
+        if self._digest is None:
+            raise Fault(Code.NO_DIGEST)
+        return self._digest
+
+    def take_digest(self) -> None:
+        """Takes the digest, where the circuit has none. Fault: 62.
+
+        What `share` has returned stays without, and so do the garblings that were made before, or are in the making.
+        """
+        at = self._owned()
+        if self._digest is None:
+            it = self.share()  # a handle that no other thread knows: the call needs it alone
+            check(it._call(library.halfgates_circuit_take_digest))
+            self._digest = it._read_digest()
+            if self._at is at:
+                self._at = it._at
+
     def share(self) -> "Circuit":
         """One more handle of the same circuit, without a copy, which is closed separately. Fault: 62."""
         it = self._empty()
         check(self._call(library.halfgates_circuit_share, byref(it._at)))
-        it._describe(self._shape, self.digest)
+        it._describe(self._shape, self._digest)
         return it
 
     def order(self) -> "Circuit":
@@ -111,20 +140,28 @@ class Circuit(Handle):
         return text
 
     def _measure(self) -> None:
-        numbers, digest = _library.Numbers(), (c_uint8 * 32)()
+        numbers = _library.Numbers()
         check(library.halfgates_circuit_numbers(self._at, numbers))
-        check(library.halfgates_circuit_digest(self._at, digest))
         inputs = self._widths(library.halfgates_circuit_input_widths, numbers.input_values)
         outputs = self._widths(library.halfgates_circuit_output_widths, numbers.output_values)
-        self._describe(Shape(numbers.gates, numbers.and_gates, numbers.wires, inputs, outputs), bytes(digest))
+        shape = Shape(numbers.gates, numbers.and_gates, numbers.wires, inputs, outputs)
+        self._describe(shape, self._read_digest())
+
+    def _read_digest(self) -> Optional[bytes]:
+        digest = (c_uint8 * 32)()
+        code = self._call(library.halfgates_circuit_digest, digest)
+        if code == Code.NO_DIGEST:
+            return None
+        check(code)
+        return bytes(digest)
 
     def _widths(self, function: Callable[..., int], count: int) -> Tuple[int, ...]:
         widths = (c_uint32 * count)()
         check(function(self._at, widths, count))
         return tuple(widths)
 
-    def _describe(self, shape: Shape, digest: bytes) -> None:
-        self._shape, self.digest = shape, digest
+    def _describe(self, shape: Shape, digest: Optional[bytes]) -> None:
+        self._shape, self._digest = shape, digest
         self.gates, self.and_gates, self.wires, self.input_widths, self.output_widths = shape
 
     def garbled_size(self, version: int = 2) -> int:
@@ -242,7 +279,8 @@ class Circuit(Handle):
     def bind(self, garbled: Buffer, labels: Iterable[Buffer]) -> "Job":
         """Binds a garbled file and a label file for each input value, in any order, to a job.
 
-        Nothing of the files is trusted. Faults: 30 to 36 of the files in turn, 40 to 46, 62.
+        Nothing of the files is trusted. Faults: 68 where the circuit has no digest, 30 to 36 of the files in turn, 40
+        to 46, 62.
         """
         it, files = Job._empty(), list(labels)
         it._shape = self._shape
@@ -283,7 +321,8 @@ class Garbling(Handle):
     def write(self, version: int = 2) -> bytearray:
         """The garbled file of a version, 1 or 2.
 
-        Faults: 60 where there is no such version or the first AND number isn't 0, 62.
+        Faults: 60 where there is no such version or the first AND number isn't 0, 62, 68 where the circuit had no
+        digest.
         """
         version = u32(version)
         file = bytearray(self._size(version))
@@ -294,7 +333,7 @@ class Garbling(Handle):
         """Writes the garbled file of a version, 1 or 2, to a writable buffer, and returns the number of its bytes.
 
         Faults: 60 where there is no such version or the first AND number isn't 0, 61 where the buffer has too little
-        room and stays as it is, 62.
+        room and stays as it is, 62, 68 where the circuit had no digest.
         """
         version, written = u32(version), c_size_t()
         with Lent(buffer, is_written=True) as out:
@@ -421,18 +460,27 @@ class Garbling(Handle):
     def audit(self, garbled: Buffer) -> GarbledReport:
         """Compares a garbled file of either version with the garbling.
 
-        Faults: 60 where the garbling's first AND number isn't 0, 30 to 36 of the file.
+        Faults: 60 where the garbling's first AND number isn't 0, 68 where its circuit had no digest, 30 to 36 of the
+        file.
         """
         report = _library.AuditReport()
         with Lent(garbled) as lent:
             check(self._call(library.halfgates_audit, lent.at, lent.size, report))
         return GarbledReport._of(report)
 
-    def audit_labels(self, labels: Buffer) -> LabelsReport:
-        """Compares a label file with the garbling, and returns the bits that it stands for.
+    def audit_rows(self, rows: Buffer, decode_bits: Bits) -> RowsReport:
+        """Compares row pairs, 32 bytes an AND gate, and decode bits with the garbling, whatever its first AND number.
 
-        Faults: 60 where the garbling's first AND number isn't 0, 30 to 36, 46.
+        Faults: 13, 15, 16 where there is another number of decode bits, 66 where there is another number of row pairs.
         """
+        report = _library.RowsReport()
+        with Lent(rows) as lent, lent_bits(decode_bits) as bits:
+            code = self._call(library.halfgates_audit_rows, lent.at, lent.size, bits.at, bits.size, report)
+            check(code, ("rows", lent.size, ROW_PAIR * self._shape.and_gates))
+        return RowsReport._of(report)
+
+    def audit_labels(self, labels: Buffer) -> LabelsReport:
+        """Compares a label file with the garbling, and returns the bits that it stands for. Faults: 30 to 36, 46."""
         report = _library.LabelsReport()
         with Lent(labels) as lent:
             bits = bytearray(max(lent.size // LABEL - 1, 0))

@@ -48,18 +48,33 @@ class AuditReport(ctypes.Structure):
     ]
 
 
+class RowsReport(ctypes.Structure):
+    _fields_ = [
+        *[(name, c_uint8) for name in "honest generator evaluator".split()],
+        *[(name, c_uint32) for name in "row gate wire decode_bit".split()],
+    ]
+
+
 class LabelsReport(ctypes.Structure):
     _fields_ = [("verdict", c_int32), ("index", c_uint32), ("count", c_uint32), ("wire", c_uint32)]
 
 
 _BYTES, _HANDLE, _SIZE = c_void_p, c_void_p, POINTER(c_size_t)
 
+_READ = c_int32, _BYTES, c_size_t, POINTER(_HANDLE)
+_FROM_GATES = (
+    *(c_int32, _BYTES, c_size_t, c_uint32, _BYTES, c_size_t, _BYTES, c_size_t),
+    *(POINTER(_HANDLE), POINTER(Place)),
+)
+
 # By function what it returns, and what it takes.
 _FUNCTIONS: Dict[str, Tuple[Any, ...]] = {
     "fault_name": (Name, c_int32),
     "version": (Name,),
     "is_memory": (c_int32, c_int32),
-    "circuit_read": (c_int32, _BYTES, c_size_t, POINTER(_HANDLE)),
+    "circuit_read": _READ,
+    "circuit_read_without_digest": _READ,
+    "circuit_take_digest": (c_int32, _HANDLE),
     "circuit_share": (c_int32, _HANDLE, POINTER(_HANDLE)),
     "circuit_order": (c_int32, _HANDLE, POINTER(_HANDLE)),
     "circuit_text": (c_int32, _HANDLE, _BYTES, c_size_t, _SIZE),
@@ -68,10 +83,8 @@ _FUNCTIONS: Dict[str, Tuple[Any, ...]] = {
     "circuit_input_widths": (c_int32, _HANDLE, POINTER(c_uint32), c_size_t),
     "circuit_output_widths": (c_int32, _HANDLE, POINTER(c_uint32), c_size_t),
     "circuit_digest": (c_int32, _HANDLE, c_void_p),
-    "circuit_from_gates": (
-        *(c_int32, _BYTES, c_size_t, c_uint32, _BYTES, c_size_t, _BYTES, c_size_t),
-        *(POINTER(_HANDLE), POINTER(Place)),
-    ),
+    "circuit_from_gates": _FROM_GATES,
+    "circuit_from_gates_without_digest": _FROM_GATES,
     "locate": (c_int32, _BYTES, c_size_t, POINTER(Place)),
     "explain": (c_int32, _BYTES, c_size_t, POINTER(Sentence)),
     "plain": (c_int32, _HANDLE, _BYTES, c_size_t, _BYTES, c_size_t),
@@ -116,6 +129,7 @@ _FUNCTIONS: Dict[str, Tuple[Any, ...]] = {
     "evaluator_feed": (c_int32, _HANDLE, _BYTES, c_size_t, _SIZE),
     "evaluator_output_labels": (c_int32, _HANDLE, _BYTES, c_size_t),
     "audit": (c_int32, _HANDLE, _BYTES, c_size_t, POINTER(AuditReport)),
+    "audit_rows": (c_int32, _HANDLE, _BYTES, c_size_t, _BYTES, c_size_t, POINTER(RowsReport)),
     "audit_labels": (c_int32, _HANDLE, _BYTES, c_size_t, _BYTES, c_size_t, POINTER(LabelsReport)),
 }
 

@@ -17,7 +17,7 @@ def write_many(garblings: Iterable[Garbling], version: int = 2) -> List[bytearra
     """The garbled file of each garbling in a version, 1 or 2, in their order, as `Garbling.write` returns it.
 
     Up to eight files in a row are digested side by side, which takes less time. Faults: 60 where there is no such
-    version, or the first AND number of a garbling isn't 0, 62.
+    version, or the first AND number of a garbling isn't 0, 62, 68 where the circuit of a garbling had no digest.
     """
     listed, version = list(garblings), u32(version)
     owners = _owners_of(listed, Garbling)  # they stay until the call ends

@@ -89,6 +89,26 @@ class GarbledReport(NamedTuple):
         )
 
 
+class RowsReport(NamedTuple):
+    """What an audit finds of row pairs and decode bits: of each the first difference from the garbling, if any."""
+
+    honest: bool  #: whether nothing differs
+    row: Optional[int]  #: the number of the first AND gate whose row pair differs
+    gate: Optional[int]  #: the place of that gate among all gates
+    wire: Optional[int]  #: the wire that it sets
+    generator: bool  #: whether its generator half gate differs
+    evaluator: bool  #: whether its evaluator half gate differs
+    decode_bit: Optional[int]  #: the first output whose decode bit differs
+
+    def __bool__(self) -> bool:
+        return self.honest
+
+    @classmethod
+    def _of(cls, it: _library.RowsReport) -> "RowsReport":
+        gate = _or_none(it.row), _or_none(it.gate), _or_none(it.wire)
+        return cls(bool(it.honest), *gate, bool(it.generator), bool(it.evaluator), _or_none(it.decode_bit))
+
+
 class LabelsReport(NamedTuple):
     """What an audit finds of a label file."""
 

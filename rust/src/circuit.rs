@@ -6,7 +6,7 @@ use std::ptr;
 use std::sync::Arc;
 
 use crate::call::{bits_of, filled, room, Handle};
-use crate::fault::Fault;
+use crate::fault::{Fault, SizeFault};
 use crate::gates::{Gate, GateFault};
 use crate::{sys, Evaluator, Garbler, Garbling, Job, Label, Place, RowPair, Version};
 
@@ -19,7 +19,24 @@ use crate::{sys, Evaluator, Garbler, Garbling, Job, Label, Place, RowPair, Versi
 pub struct Circuit {
     handle: Handle<sys::halfgates_circuit>,
     shape: Arc<Shape>,
+    digest: Option<[u8; 32]>,
 }
+
+/// A call that reads a circuit, with its digest or without.
+type Read = unsafe extern "C" fn(*const u8, usize, *mut *mut sys::halfgates_circuit) -> i32;
+
+/// A call that makes a circuit of gates, with its digest or without.
+type FromGates = unsafe extern "C" fn(
+    *const Gate,
+    usize,
+    u32,
+    *const u32,
+    usize,
+    *const u32,
+    usize,
+    *mut *mut sys::halfgates_circuit,
+    *mut sys::halfgates_place,
+) -> i32;
 
 /// What a circuit, its garblings and its jobs know of its size.
 pub(crate) struct Shape {
@@ -30,7 +47,6 @@ pub(crate) struct Shape {
     pub output_wires: usize,
     pub input_widths: Vec<usize>,
     pub output_widths: Vec<usize>,
-    digest: [u8; 32],
 }
 
 impl Circuit {
@@ -42,13 +58,34 @@ impl Circuit {
     /// [`explain`](crate::explain) explains; [`Fault::MEMORY`].
     #[doc(alias = "halfgates_circuit_read")]
     pub fn read(text: impl AsRef<[u8]>) -> Result<Self, Fault> {
-        let text = text.as_ref();
+        Self::read_by(sys::halfgates_circuit_read, text.as_ref())
+    }
+
+    /// Reads a circuit without taking its digest, which takes longer than reading. Garbled files
+    /// and jobs need it: see [`Circuit::take_digest`].
+    ///
+    /// # Errors
+    ///
+    /// Those of [`Circuit::read`].
+    #[doc(alias = "halfgates_circuit_read_without_digest")]
+    pub fn read_without_digest(text: impl AsRef<[u8]>) -> Result<Self, Fault> {
+        Self::read_by(sys::halfgates_circuit_read_without_digest, text.as_ref())
+    }
+
+    fn read_by(read: Read, text: &[u8]) -> Result<Self, Fault> {
         // SAFETY: the call reads the text, and writes a handle.
-        let handle = unsafe {
-            Handle::new(|it| sys::halfgates_circuit_read(text.as_ptr(), text.len(), it))?
-        };
+        let handle = unsafe { Handle::new(|it| read(text.as_ptr(), text.len(), it))? };
+        Self::of(handle)
+    }
+
+    fn of(handle: Handle<sys::halfgates_circuit>) -> Result<Self, Fault> {
         let shape = Arc::new(Shape::of(&handle)?);
-        Ok(Self { handle, shape })
+        let digest = digest_of(&handle)?;
+        Ok(Self {
+            handle,
+            shape,
+            digest,
+        })
     }
 
     /// The circuit of these gates in this order, of this many wires, and of values of these widths:
@@ -74,6 +111,32 @@ impl Circuit {
         input_widths: &[usize],
         output_widths: &[usize],
     ) -> Result<Self, GateFault> {
+        let call = sys::halfgates_circuit_from_gates;
+        Self::from_gates_by(call, gates, wires, [input_widths, output_widths])
+    }
+
+    /// The circuit of these gates, as by [`Circuit::from_gates`], without its digest.
+    ///
+    /// # Errors
+    ///
+    /// Those of [`Circuit::from_gates`].
+    #[doc(alias = "halfgates_circuit_from_gates_without_digest")]
+    pub fn from_gates_without_digest(
+        gates: &[Gate],
+        wires: usize,
+        input_widths: &[usize],
+        output_widths: &[usize],
+    ) -> Result<Self, GateFault> {
+        let call = sys::halfgates_circuit_from_gates_without_digest;
+        Self::from_gates_by(call, gates, wires, [input_widths, output_widths])
+    }
+
+    fn from_gates_by(
+        call: FromGates,
+        gates: &[Gate],
+        wires: usize,
+        [input_widths, output_widths]: [&[usize]; 2],
+    ) -> Result<Self, GateFault> {
         let wires = number(wires)?;
         let (inputs, outputs) = (numbers(input_widths)?, numbers(output_widths)?);
         let mut place = sys::halfgates_place::default();
@@ -81,8 +144,8 @@ impl Circuit {
         // and writes the place and a handle.
         let handle = unsafe {
             Handle::new(|it| {
-                sys::halfgates_circuit_from_gates(
-                    gates.as_ptr().cast(),
+                call(
+                    gates.as_ptr(),
                     gates.len(),
                     wires,
                     inputs.as_ptr(),
@@ -95,8 +158,21 @@ impl Circuit {
             })
         }
         .map_err(|fault| GateFault::of(fault, Place::of(&place)))?;
-        let shape = Arc::new(Shape::of(&handle)?);
-        Ok(Self { handle, shape })
+        Ok(Self::of(handle)?)
+    }
+
+    /// Takes the digest, where the circuit has none. Garblings made before, and circuits that
+    /// [`Circuit::share`] has returned, stay without.
+    ///
+    /// # Errors
+    ///
+    /// None with the handles of this crate.
+    #[doc(alias = "halfgates_circuit_take_digest")]
+    pub fn take_digest(&mut self) -> Result<(), Fault> {
+        // SAFETY: the handle is borrowed exclusively.
+        Fault::check(unsafe { sys::halfgates_circuit_take_digest(self.handle.get_mut()) })?;
+        self.digest = digest_of(&self.handle)?;
+        Ok(())
     }
 
     /// One more handle of this circuit. It copies nothing.
@@ -112,6 +188,7 @@ impl Circuit {
         Ok(Self {
             handle,
             shape: Arc::clone(&self.shape),
+            digest: self.digest,
         })
     }
 
@@ -130,8 +207,7 @@ impl Circuit {
         // SAFETY: the call writes a handle.
         let handle =
             unsafe { Handle::new(|it| sys::halfgates_circuit_order(self.handle.get(), it))? };
-        let shape = Arc::new(Shape::of(&handle)?);
-        Ok(Self { handle, shape })
+        Self::of(handle)
     }
 
     /// The canonical text of the circuit.
@@ -200,9 +276,13 @@ impl Circuit {
     }
 
     /// The SHA-256 of the circuit's canonical text.
-    #[must_use]
-    pub fn digest(&self) -> &[u8; 32] {
-        &self.shape.digest
+    ///
+    /// # Errors
+    ///
+    /// [`Fault::NO_DIGEST`] where it wasn't taken.
+    #[doc(alias = "halfgates_circuit_digest")]
+    pub fn digest(&self) -> Result<&[u8; 32], Fault> {
+        self.digest.as_ref().ok_or(Fault::NO_DIGEST)
     }
 
     /// Evaluates the circuit in the clear: the bits of all output wires, for those of all input
@@ -289,7 +369,7 @@ impl Circuit {
         offset: &Label,
         zero_labels: &[Label],
         first: u64,
-    ) -> Result<Garbling, Fault> {
+    ) -> Result<Garbling, SizeFault> {
         let (labels, size) = (zero_labels.as_ptr().cast(), size_of_val(zero_labels));
         // SAFETY: the call reads the 16 bytes of the offset and `size` bytes of labels, and writes
         // a handle.
@@ -303,8 +383,9 @@ impl Circuit {
                     first,
                     it,
                 )
-            })?
+            })
         };
+        let handle = handle.map_err(|it| self.fault_of_inputs(it, "zero_labels", zero_labels))?;
         Ok(Garbling::new(handle, Arc::clone(&self.shape)))
     }
 
@@ -335,7 +416,7 @@ impl Circuit {
         offset: &Label,
         zero_labels: &[Label],
         first: u64,
-    ) -> Result<Garbler, Fault> {
+    ) -> Result<Garbler, SizeFault> {
         let (labels, size) = (zero_labels.as_ptr().cast(), size_of_val(zero_labels));
         // SAFETY: the call reads the 16 bytes of the offset and `size` bytes of labels, and writes
         // a handle.
@@ -343,8 +424,9 @@ impl Circuit {
             Handle::new(|it| {
                 let circuit = self.handle.get();
                 sys::halfgates_garbler_begin_from(circuit, offset.as_ptr(), labels, size, first, it)
-            })?
+            })
         };
+        let handle = handle.map_err(|it| self.fault_of_inputs(it, "zero_labels", zero_labels))?;
         Ok(Garbler::new(handle, Arc::clone(&self.shape)))
     }
 
@@ -357,15 +439,19 @@ impl Circuit {
     /// [`Fault::BAD_ARGUMENT`] where `first` is too large; [`Fault::JOB_MEMORY`],
     /// [`Fault::MEMORY`].
     #[doc(alias = "halfgates_evaluator_begin")]
-    pub fn evaluator(&self, first: u64, labels: &[Label]) -> Result<Evaluator, Fault> {
+    pub fn evaluator(&self, first: u64, labels: &[Label]) -> Result<Evaluator, SizeFault> {
         let (at, size) = (labels.as_ptr().cast(), size_of_val(labels));
         // SAFETY: the call reads `size` bytes of labels, and writes a handle.
         let handle = unsafe {
-            Handle::new(|it| {
-                sys::halfgates_evaluator_begin(self.handle.get(), first, at, size, it)
-            })?
+            Handle::new(|it| sys::halfgates_evaluator_begin(self.handle.get(), first, at, size, it))
         };
+        let handle = handle.map_err(|it| self.fault_of_inputs(it, "labels", labels))?;
         Ok(Evaluator::new(handle, &self.shape))
+    }
+
+    /// A fault of a call that takes a label for each input wire.
+    fn fault_of_inputs(&self, fault: Fault, name: &'static str, labels: &[Label]) -> SizeFault {
+        SizeFault::of(fault, &[(name, labels.len(), self.input_wires())])
     }
 
     /// The size of a garbled file in bytes, whatever the seed.
@@ -417,24 +503,26 @@ impl Circuit {
     /// [`Fault::NO_SUCH_VALUE`], [`Fault::WRONG_SIZE`] where there isn't one label for each wire,
     /// [`Fault::MEMORY`].
     #[doc(alias = "halfgates_label_file")]
-    pub fn label_file(&self, index: usize, labels: &[Label]) -> Result<Vec<u8>, Fault> {
+    pub fn label_file(&self, index: usize, labels: &[Label]) -> Result<Vec<u8>, SizeFault> {
+        let width = self.input_widths().get(index).copied().unwrap_or_default();
         let index = index_of_value(index)?;
         let (size, mut written) = (size_of_label_file(labels.len())?, 0);
-        let (labels, labels_size) = (labels.as_ptr().cast(), size_of_val(labels));
+        let (at, labels_size) = (labels.as_ptr().cast(), size_of_val(labels));
         // SAFETY: the call reads the labels, and writes the file, which has `size` bytes.
-        unsafe {
+        let file = unsafe {
             filled(size, |file| {
                 sys::halfgates_label_file(
                     self.handle.get(),
                     index,
-                    labels,
+                    at,
                     labels_size,
                     file,
                     size,
                     &mut written,
                 )
             })
-        }
+        };
+        file.map_err(|it| SizeFault::of(it, &[("labels", labels.len(), width)]))
     }
 
     /// Binds a garbled file and a label file for each input value, in any order, to a job. Nothing
@@ -442,8 +530,9 @@ impl Circuit {
     ///
     /// # Errors
     ///
-    /// Codes 30 to 36, the first fault of the garbled file, then of each label file in turn; 40 to
-    /// 46, the first fault of the binding; [`Fault::MEMORY`].
+    /// [`Fault::NO_DIGEST`] where the circuit has none; codes 30 to 36, the first fault of the
+    /// garbled file, then of each label file in turn; 40 to 46, the first fault of the binding;
+    /// [`Fault::MEMORY`].
     #[doc(alias = "halfgates_job_bind")]
     pub fn bind<L: AsRef<[u8]>>(&self, garbled: &[u8], labels: &[L]) -> Result<Job, Fault> {
         let (joined, lengths) = joined(labels)?;
@@ -482,10 +571,10 @@ impl Circuit {
         rows: &[RowPair],
         labels: &[Label],
         first: u64,
-    ) -> Result<Vec<Label>, Fault> {
+    ) -> Result<Vec<Label>, SizeFault> {
         let count = self.output_wires();
         // SAFETY: the call reads the rows and labels, and writes `count` labels.
-        unsafe {
+        let outputs = unsafe {
             filled(count, |outputs: *mut Label| {
                 sys::halfgates_evaluate_labels(
                     self.handle.get(),
@@ -498,7 +587,12 @@ impl Circuit {
                     count * size_of::<Label>(),
                 )
             })
-        }
+        };
+        let sizes = [
+            ("rows", rows.len(), self.and_gates()),
+            ("labels", labels.len(), self.input_wires()),
+        ];
+        outputs.map_err(|it| SizeFault::of(it, &sizes))
     }
 }
 
@@ -516,15 +610,9 @@ impl fmt::Debug for Circuit {
 
 impl Shape {
     fn of(circuit: &Handle<sys::halfgates_circuit>) -> Result<Self, Fault> {
-        let (mut numbers, mut digest) = (sys::halfgates_numbers::default(), [0; 32]);
-        // SAFETY: the calls write the numbers and the 32 bytes of the digest.
-        unsafe {
-            Fault::check(sys::halfgates_circuit_numbers(circuit.get(), &mut numbers))?;
-            Fault::check(sys::halfgates_circuit_digest(
-                circuit.get(),
-                digest.as_mut_ptr(),
-            ))?;
-        }
+        let mut numbers = sys::halfgates_numbers::default();
+        // SAFETY: the call writes the numbers.
+        Fault::check(unsafe { sys::halfgates_circuit_numbers(circuit.get(), &mut numbers) })?;
         let (inputs, outputs) = (
             numbers.input_values as usize,
             numbers.output_values as usize,
@@ -550,8 +638,18 @@ impl Shape {
             output_wires: numbers.output_wires as usize,
             input_widths: counts(input_widths),
             output_widths: counts(output_widths),
-            digest,
         })
+    }
+}
+
+fn digest_of(circuit: &Handle<sys::halfgates_circuit>) -> Result<Option<[u8; 32]>, Fault> {
+    let mut digest = [0; 32];
+    // SAFETY: the call writes 32 bytes.
+    match Fault::check(unsafe { sys::halfgates_circuit_digest(circuit.get(), digest.as_mut_ptr()) })
+    {
+        Ok(()) => Ok(Some(digest)),
+        Err(Fault::NO_DIGEST) => Ok(None),
+        Err(fault) => Err(fault),
     }
 }
 

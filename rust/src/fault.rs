@@ -121,6 +121,8 @@ faults! {
     /// Row pairs are left: a garbler hasn't made all of them, or an evaluator hasn't taken all of
     /// them.
     UNFINISHED = 67 "Unfinished";
+    /// The circuit has no digest, which the call needs.
+    NO_DIGEST = 68 "NoDigest";
 }
 
 impl Fault {
@@ -160,6 +162,97 @@ impl fmt::Debug for Fault {
 }
 
 impl Error for Fault {}
+
+/// Why a call that takes slices failed: the fault, and which slice it is about.
+///
+/// ```
+/// use halfgates::Circuit;
+///
+/// let circuit = Circuit::read("1 3\n2 1 1\n1 1\n2 1 0 1 2 AND")?;
+/// let fault = circuit.evaluator(0, &[[0; 16]]).unwrap_err();
+/// assert_eq!(
+///     fault.to_string(),
+///     "fault 66 WrongSize: labels has length 1, where 2 is expected"
+/// );
+/// # Ok::<(), halfgates::Fault>(())
+/// ```
+#[derive(Clone, Copy, Debug, PartialEq, Eq)]
+#[non_exhaustive]
+pub struct SizeFault {
+    /// The fault.
+    pub fault: Fault,
+    /// The slice of [`Fault::WRONG_SIZE`] and [`Fault::SMALL_BUFFER`].
+    pub slice: Option<Slice>,
+}
+
+/// A slice that a call was given.
+#[derive(Clone, Copy, Debug, PartialEq, Eq)]
+#[non_exhaustive]
+pub struct Slice {
+    /// The name of the parameter.
+    pub name: &'static str,
+    /// How many items it has.
+    pub given: usize,
+    /// How many items are expected: of a buffer that is written, at least.
+    pub expected: usize,
+}
+
+impl SizeFault {
+    /// A fault of a call that takes these slices, each with the items that it has and that are
+    /// expected.
+    pub(crate) fn of(fault: Fault, slices: &[(&'static str, usize, usize)]) -> Self {
+        let is_at_fault = |given, expected| match fault {
+            Fault::WRONG_SIZE => given != expected,
+            Fault::SMALL_BUFFER => given < expected,
+            _ => false,
+        };
+        let slice = slices
+            .iter()
+            .find(|&&(_, given, expected)| is_at_fault(given, expected))
+            .map(|&(name, given, expected)| Slice {
+                name,
+                given,
+                expected,
+            });
+        Self { fault, slice }
+    }
+}
+
+impl From<Fault> for SizeFault {
+    fn from(fault: Fault) -> Self {
+        Self { fault, slice: None }
+    }
+}
+
+impl From<SizeFault> for Fault {
+    fn from(it: SizeFault) -> Self {
+        it.fault
+    }
+}
+
+impl PartialEq<Fault> for SizeFault {
+    fn eq(&self, other: &Fault) -> bool {
+        self.fault == *other
+    }
+}
+
+impl fmt::Display for SizeFault {
+    fn fmt(&self, f: &mut fmt::Formatter<'_>) -> fmt::Result {
+        self.fault.fmt(f)?;
+        if let Some(it) = self.slice {
+            let (name, given, expected) = (it.name, it.given, it.expected);
+            let is_read = self.fault == Fault::WRONG_SIZE;
+            let least = if is_read { "" } else { "at least " };
+            write!(
+                f,
+                ": {name} has length {given}, where {least}{expected} is expected"
+            )?;
+        }
+        Ok(())
+    }
+}
+
+impl Error for SizeFault {}
 
 #[cfg(test)]
 mod tests {

@@ -9,8 +9,8 @@ use std::sync::Arc;
 
 use crate::call::{bits_of, borrowed, filled, pairs, room, Handle};
 use crate::circuit::{index_of_value, size_of_label_file, Shape};
-use crate::fault::Fault;
-use crate::{sys, GarbledReport, Label, LabelsReport, RowPair, Version, WireLabels};
+use crate::fault::{Fault, SizeFault};
+use crate::{sys, GarbledReport, Label, LabelsReport, RowPair, RowsReport, Version, WireLabels};
 
 /// The garbling of a circuit: a zero label for each wire, and a row pair for each AND gate. Whoever
 /// has it knows every label.
@@ -35,7 +35,8 @@ impl Garbling {
     ///
     /// # Errors
     ///
-    /// [`Fault::BAD_ARGUMENT`] where the garbling's first AND number isn't 0, [`Fault::MEMORY`].
+    /// [`Fault::BAD_ARGUMENT`] where the garbling's first AND number isn't 0; [`Fault::NO_DIGEST`]
+    /// where its circuit had none; [`Fault::MEMORY`].
     #[doc(alias = "halfgates_garbling_write")]
     pub fn write(&self, version: Version) -> Result<Vec<u8>, Fault> {
         let (size, mut written) = (self.garbled_size(version)?, 0);
@@ -63,14 +64,15 @@ impl Garbling {
     /// # Errors
     ///
     /// [`Fault::SMALL_BUFFER`] where the file doesn't fit, and the buffer stays as it is;
-    /// [`Fault::BAD_ARGUMENT`] where the garbling's first AND number isn't 0; [`Fault::MEMORY`].
+    /// the others as of [`Garbling::write`].
     #[doc(alias = "halfgates_garbling_write")]
-    pub fn write_into(&self, version: Version, buffer: &mut [u8]) -> Result<usize, Fault> {
+    pub fn write_into(&self, version: Version, buffer: &mut [u8]) -> Result<usize, SizeFault> {
         let mut written = 0;
         // SAFETY: the buffer is exclusive, and has this size.
         Fault::check(unsafe {
             self.write_to(version, buffer.as_mut_ptr(), buffer.len(), &mut written)
-        })?;
+        })
+        .map_err(|it| SizeFault::of(it, &[("buffer", buffer.len(), written)]))?;
         Ok(written)
     }
 
@@ -214,7 +216,7 @@ impl Garbling {
     /// [`Fault::WRONG_LABEL`] where one is neither of the two labels of its wire;
     /// [`Fault::MEMORY`].
     #[doc(alias = "halfgates_open")]
-    pub fn open(&self, index: usize, labels: &[Label]) -> Result<Vec<bool>, Fault> {
+    pub fn open(&self, index: usize, labels: &[Label]) -> Result<Vec<bool>, SizeFault> {
         let widths = &self.shape.output_widths;
         let count = *widths.get(index).ok_or(Fault::NO_SUCH_VALUE)?;
         let index = index_of_value(index)?;
@@ -223,8 +225,9 @@ impl Garbling {
             filled(count, |bits| {
                 let (labels, size) = (labels.as_ptr().cast(), size_of_val(labels));
                 sys::halfgates_open(self.handle.get(), index, labels, size, bits, count)
-            })?
+            })
         };
+        let bits = bits.map_err(|it| SizeFault::of(it, &[("labels", labels.len(), count)]))?;
         Ok(bits_of(bits))
     }
 
@@ -312,8 +315,8 @@ impl Garbling {
     ///
     /// # Errors
     ///
-    /// Codes 30 to 36, the first fault of the file; [`Fault::BAD_ARGUMENT`] where the garbling's
-    /// first AND number isn't 0.
+    /// [`Fault::BAD_ARGUMENT`] where the garbling's first AND number isn't 0;
+    /// [`Fault::NO_DIGEST`] where its circuit had none; codes 30 to 36, the first fault of the file.
     #[doc(alias = "halfgates_audit")]
     pub fn audit(&self, garbled: &[u8]) -> Result<GarbledReport, Fault> {
         let mut report = sys::halfgates_audit_report::default();
@@ -329,13 +332,38 @@ impl Garbling {
         Ok(GarbledReport::of(&report))
     }
 
+    /// Compares row pairs and decode bits with the garbling, whatever its first AND number. Rows or
+    /// bits that differ are `Ok`.
+    ///
+    /// # Errors
+    ///
+    /// [`Fault::WRONG_SIZE`] where there isn't one row pair for each AND gate;
+    /// [`Fault::WRONG_LENGTH`] where there isn't one decode bit for each output wire;
+    /// [`Fault::CIRCUIT_MEMORY`].
+    #[doc(alias = "halfgates_audit_rows")]
+    pub fn audit_rows(
+        &self,
+        rows: &[RowPair],
+        decode_bits: &[bool],
+    ) -> Result<RowsReport, SizeFault> {
+        let mut report = sys::halfgates_rows_report::default();
+        // SAFETY: a `bool` is a byte 0 or 1. The call reads the rows and the bits, and writes the
+        // report.
+        Fault::check(unsafe {
+            let (bits, count) = (decode_bits.as_ptr().cast(), decode_bits.len());
+            let (pairs, size) = (rows.as_ptr().cast(), size_of_val(rows));
+            sys::halfgates_audit_rows(self.handle.get(), pairs, size, bits, count, &mut report)
+        })
+        .map_err(|it| SizeFault::of(it, &[("rows", rows.len(), self.shape.and_gates)]))?;
+        Ok(RowsReport::of(&report))
+    }
+
     /// Compares a label file with the garbling, and returns the bits that it stands for. A file
     /// that differs is `Ok`.
     ///
     /// # Errors
     ///
-    /// Codes 30 to 36, the first fault of the file; [`Fault::JOB_MEMORY`], [`Fault::MEMORY`];
-    /// [`Fault::BAD_ARGUMENT`] where the garbling's first AND number isn't 0.
+    /// Codes 30 to 36, the first fault of the file; [`Fault::JOB_MEMORY`], [`Fault::MEMORY`].
     #[doc(alias = "halfgates_audit_labels")]
     pub fn audit_labels(&self, labels: &[u8]) -> Result<LabelsReport, Fault> {
         let mut report = sys::halfgates_labels_report::default();
@@ -365,7 +393,8 @@ impl Garbling {
 ///
 /// # Errors
 ///
-/// [`Fault::BAD_ARGUMENT`] where the first AND number of a garbling isn't 0, [`Fault::MEMORY`].
+/// [`Fault::BAD_ARGUMENT`] where the first AND number of a garbling isn't 0;
+/// [`Fault::NO_DIGEST`] where the circuit of a garbling had none; [`Fault::MEMORY`].
 #[doc(alias = "halfgates_write_many")]
 pub fn write_many<G: Borrow<Garbling>>(
     garblings: &[G],

@@ -91,12 +91,13 @@ mod sys;
 use call::{bits_of, filled, text_of};
 
 pub use circuit::Circuit;
-pub use fault::Fault;
+pub use fault::{Fault, SizeFault, Slice};
 pub use garbling::{write_many, Garbling};
 pub use gates::{Gate, GateFault, Operation};
 pub use job::{evaluate_each, evaluate_many, Job};
 pub use report::{
-    EntryDifference, GarbledReport, LabelsReport, Place, RowDifference, Verdict, WireLabels,
+    EntryDifference, GarbledReport, LabelsReport, Place, RowDifference, RowsReport, Verdict,
+    WireLabels,
 };
 
 pub use streaming::{Evaluator, Garbler, Pieces};
@@ -170,7 +171,7 @@ pub enum Version {
     V2 = 2,
 }
 
-/// The version of the library, such as `0.9.7`.
+/// The version of the library, such as `0.9.8`.
 #[must_use]
 #[doc(alias = "halfgates_version")]
 pub fn version() -> String {
@@ -229,7 +230,7 @@ pub fn explain(text: impl AsRef<[u8]>) -> Result<String, Fault> {
 /// [`Fault::WRONG_SIZE`] where there isn't one decode bit for each label;
 /// [`Fault::CIRCUIT_MEMORY`], [`Fault::JOB_MEMORY`], [`Fault::MEMORY`].
 #[doc(alias = "halfgates_decode")]
-pub fn decode(labels: &[Label], decode_bits: &[bool]) -> Result<Vec<bool>, Fault> {
+pub fn decode(labels: &[Label], decode_bits: &[bool]) -> Result<Vec<bool>, SizeFault> {
     let count = decode_bits.len();
     // SAFETY: the call reads the labels and the decode bits, and writes `count` bytes.
     let bits = unsafe {
@@ -243,7 +244,8 @@ pub fn decode(labels: &[Label], decode_bits: &[bool]) -> Result<Vec<bool>, Fault
                 bits,
                 count,
             )
-        })?
+        })
     };
+    let bits = bits.map_err(|it| SizeFault::of(it, &[("labels", labels.len(), count)]))?;
     Ok(bits_of(bits))
 }

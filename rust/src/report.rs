@@ -115,18 +115,48 @@ impl GarbledReport {
             version: it.version,
             has_digest: it.digest != 0,
             has_counts: it.counts != 0,
-            row: some(it.row).map(|row| RowDifference {
-                row,
-                gate: it.gate as usize,
-                wire: it.wire as usize,
-                generator: it.generator != 0,
-                evaluator: it.evaluator != 0,
-            }),
+            row: RowDifference::of([it.row, it.gate, it.wire], it.generator, it.evaluator),
             decode_bit: some(it.decode_bit),
             entry: some(it.entry).map(|output| EntryDifference {
                 output,
                 colour: it.entry_colour != 0,
             }),
+        }
+    }
+}
+
+impl RowDifference {
+    /// The gate, the rows of which differ where a byte isn't 0.
+    fn of(gate: [u32; 3], generator: u8, evaluator: u8) -> Option<Self> {
+        let [row, gate, wire] = gate;
+        some(row).map(|row| Self {
+            row,
+            gate: gate as usize,
+            wire: wire as usize,
+            generator: generator != 0,
+            evaluator: evaluator != 0,
+        })
+    }
+}
+
+/// What an audit finds of row pairs and decode bits: the first difference of each, if there is one.
+#[derive(Clone, Copy, Debug, PartialEq, Eq)]
+#[non_exhaustive]
+pub struct RowsReport {
+    /// Whether nothing differs.
+    pub is_honest: bool,
+    /// The first row pair that differs.
+    pub row: Option<RowDifference>,
+    /// The first output, counted from 0, whose decode bit differs.
+    pub decode_bit: Option<usize>,
+}
+
+impl RowsReport {
+    pub(crate) fn of(it: &sys::halfgates_rows_report) -> Self {
+        Self {
+            is_honest: it.honest != 0,
+            row: RowDifference::of([it.row, it.gate, it.wire], it.generator, it.evaluator),
+            decode_bit: some(it.decode_bit),
         }
     }
 }

@@ -6,7 +6,7 @@ use std::sync::Arc;
 
 use crate::call::{bits_of, filled, pairs, room, Handle};
 use crate::circuit::Shape;
-use crate::fault::Fault;
+use crate::fault::{Fault, SizeFault};
 use crate::{sys, Label, RowPair};
 
 const ROW_PAIR: usize = size_of::<RowPair>();
@@ -101,9 +101,10 @@ impl Garbler {
     ///
     /// [`Fault::SMALL_BUFFER`] where row pairs are left and there is room for none.
     #[doc(alias = "halfgates_garbler_next")]
-    pub fn rows_into(&mut self, rows: &mut [RowPair]) -> Result<usize, Fault> {
+    pub fn rows_into(&mut self, rows: &mut [RowPair]) -> Result<usize, SizeFault> {
         // SAFETY: the row pairs are exclusive, and any bytes make one.
-        let written = unsafe { self.write_to(rows.as_mut_ptr().cast(), size_of_val(rows))? };
+        let written = unsafe { self.write_to(rows.as_mut_ptr().cast(), size_of_val(rows)) };
+        let written = written.map_err(|it| SizeFault::of(it, &[("rows", rows.len(), 1)]))?;
         Ok(written / ROW_PAIR)
     }
 
@@ -115,9 +116,10 @@ impl Garbler {
     ///
     /// [`Fault::SMALL_BUFFER`] where row pairs are left and there is room for none.
     #[doc(alias = "halfgates_garbler_next")]
-    pub fn bytes_into(&mut self, bytes: &mut [u8]) -> Result<usize, Fault> {
+    pub fn bytes_into(&mut self, bytes: &mut [u8]) -> Result<usize, SizeFault> {
         // SAFETY: the bytes are exclusive.
         unsafe { self.write_to(bytes.as_mut_ptr(), bytes.len()) }
+            .map_err(|it| SizeFault::of(it, &[("bytes", bytes.len(), ROW_PAIR)]))
     }
 
     /// Garbles the AND gates that are left: an iterator of their row pairs, in pieces of this many.
@@ -251,13 +253,14 @@ impl Evaluator {
     ///
     /// [`Fault::WRONG_SIZE`] where there are more row pairs than are left, and none is taken.
     #[doc(alias = "halfgates_evaluator_feed")]
-    pub fn feed(&mut self, rows: &[u8]) -> Result<usize, Fault> {
+    pub fn feed(&mut self, rows: &[u8]) -> Result<usize, SizeFault> {
         let mut taken = 0;
         // SAFETY: the call reads the bytes, and the handle is borrowed exclusively.
         Fault::check(unsafe {
             let (evaluator, size) = (self.handle.get_mut(), rows.len());
             sys::halfgates_evaluator_feed(evaluator, rows.as_ptr(), size, &mut taken)
-        })?;
+        })
+        .map_err(|it| SizeFault::of(it, &[("rows", rows.len(), self.left * ROW_PAIR)]))?;
         self.left -= taken / ROW_PAIR;
         Ok(taken)
     }
@@ -268,13 +271,14 @@ impl Evaluator {
     ///
     /// [`Fault::WRONG_SIZE`] where they are more than are left, and none is taken.
     #[doc(alias = "halfgates_evaluator_feed")]
-    pub fn feed_rows(&mut self, rows: &[RowPair]) -> Result<(), Fault> {
+    pub fn feed_rows(&mut self, rows: &[RowPair]) -> Result<(), SizeFault> {
         let mut taken = 0;
         // SAFETY: the call reads the row pairs, and the handle is borrowed exclusively.
         Fault::check(unsafe {
             let (rows, size) = (rows.as_ptr().cast(), size_of_val(rows));
             sys::halfgates_evaluator_feed(self.handle.get_mut(), rows, size, &mut taken)
-        })?;
+        })
+        .map_err(|it| SizeFault::of(it, &[("rows", rows.len(), self.left)]))?;
         self.left -= taken / ROW_PAIR;
         Ok(())
     }

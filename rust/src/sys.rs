@@ -88,6 +88,18 @@ pub struct halfgates_audit_report {
 
 #[repr(C)]
 #[derive(Default)]
+pub struct halfgates_rows_report {
+    pub honest: u8,
+    pub generator: u8,
+    pub evaluator: u8,
+    pub row: u32,
+    pub gate: u32,
+    pub wire: u32,
+    pub decode_bit: u32,
+}
+
+#[repr(C)]
+#[derive(Default)]
 pub struct halfgates_labels_report {
     pub verdict: i32,
     pub index: u32,
@@ -103,6 +115,7 @@ const _: () = {
     assert!(size_of::<halfgates_sentence>() == 256);
     assert!(size_of::<halfgates_wire_labels>() == 33);
     assert!(size_of::<halfgates_audit_report>() == 28);
+    assert!(size_of::<halfgates_rows_report>() == 20);
     assert!(size_of::<halfgates_labels_report>() == 16);
 };
 
@@ -117,6 +130,12 @@ extern "C" {
         length: usize,
         circuit: *mut *mut halfgates_circuit,
     ) -> i32;
+    pub fn halfgates_circuit_read_without_digest(
+        text: *const u8,
+        length: usize,
+        circuit: *mut *mut halfgates_circuit,
+    ) -> i32;
+    pub fn halfgates_circuit_take_digest(circuit: *mut halfgates_circuit) -> i32;
     pub fn halfgates_circuit_share(
         circuit: *const halfgates_circuit,
         other: *mut *mut halfgates_circuit,
@@ -154,6 +173,17 @@ extern "C" {
         sentence: *mut halfgates_sentence,
     ) -> i32;
     pub fn halfgates_circuit_from_gates(
+        gates: *const halfgates_gate,
+        count: usize,
+        wires: u32,
+        input_widths: *const u32,
+        input_values: usize,
+        output_widths: *const u32,
+        output_values: usize,
+        circuit: *mut *mut halfgates_circuit,
+        place: *mut halfgates_place,
+    ) -> i32;
+    pub fn halfgates_circuit_from_gates_without_digest(
         gates: *const halfgates_gate,
         count: usize,
         wires: u32,
@@ -404,6 +434,14 @@ extern "C" {
         garbled: *const u8,
         length: usize,
         report: *mut halfgates_audit_report,
+    ) -> i32;
+    pub fn halfgates_audit_rows(
+        garbling: *const halfgates_garbling,
+        rows: *const u8,
+        rows_size: usize,
+        decode_bits: *const u8,
+        count: usize,
+        report: *mut halfgates_rows_report,
     ) -> i32;
     pub fn halfgates_audit_labels(
         garbling: *const halfgates_garbling,

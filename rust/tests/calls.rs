@@ -10,7 +10,7 @@ use std::thread;
 
 use halfgates::{
     decode, evaluate_each, evaluate_many, explain, locate, write_many, Circuit, Evaluator, Fault,
-    Garbler, Garbling, Gate, GateFault, Job, Label, RowPair, Verdict, Version,
+    Garbler, Garbling, Gate, GateFault, Job, Label, RowPair, SizeFault, Slice, Verdict, Version,
 };
 
 const FULL_ADDER: &str = include_str!("../../examples/full_adder.txt");
@@ -23,6 +23,11 @@ fn adder() -> Circuit {
 
 fn garbling() -> Garbling {
     adder().garble(&SEED).unwrap()
+}
+
+/// The result with the fault alone.
+fn bare<T>(result: Result<T, SizeFault>) -> Result<T, Fault> {
+    Ok(result?)
 }
 
 /// The label files for `BITS`.
@@ -183,7 +188,7 @@ fn a_garbling_from_its_own_labels() {
 
     let outputs = circuit.evaluate_labels(&later.rows().unwrap(), &active_labels(&seeded), 5);
     let decoded = decode(&outputs.unwrap(), &later.decode_bits().unwrap());
-    assert_eq!(decoded, circuit.plain(&BITS));
+    assert_eq!(bare(decoded), circuit.plain(&BITS));
 }
 
 #[test]
@@ -249,7 +254,7 @@ fn numbers_that_nothing_has() {
         );
         assert_eq!(garbling.deal(number, &[true]), Err(Fault::NO_SUCH_VALUE));
         assert_eq!(
-            circuit.label_file(number, &[Label::default()]),
+            bare(circuit.label_file(number, &[Label::default()])),
             Err(Fault::NO_SUCH_VALUE)
         );
     }
@@ -260,7 +265,7 @@ fn numbers_that_nothing_has() {
     assert_eq!(garbling.labels(&[true], 0..8), Err(Fault::WRONG_LENGTH));
     assert_eq!(circuit.deal(&SEED, 0, &[]), Err(Fault::WRONG_LENGTH));
     assert_eq!(garbling.deal(0, &BITS), Err(Fault::WRONG_LENGTH));
-    assert_eq!(circuit.label_file(0, &[]), Err(Fault::WRONG_SIZE));
+    assert_eq!(bare(circuit.label_file(0, &[])), Err(Fault::WRONG_SIZE));
 }
 
 #[test]
@@ -272,12 +277,12 @@ fn buffers_of_each_size() {
     assert_eq!((&buffer[..177], &buffer[177..]), (&file[..], &[9; 23][..]));
     let mut short = [9; 176];
     assert_eq!(
-        garbling.write_into(Version::V2, &mut short),
+        bare(garbling.write_into(Version::V2, &mut short)),
         Err(Fault::SMALL_BUFFER)
     );
     assert_eq!(short, [9; 176]);
     assert_eq!(
-        garbling.write_into(Version::V1, &mut []),
+        bare(garbling.write_into(Version::V1, &mut [])),
         Err(Fault::SMALL_BUFFER)
     );
 }
@@ -407,13 +412,16 @@ fn rows_and_labels_of_a_wrong_number() {
     let (circuit, garbling) = (adder(), garbling());
     let (rows, labels) = (garbling.rows().unwrap(), active_labels(&garbling));
     let refused = Err(Fault::WRONG_SIZE);
-    assert_eq!(circuit.evaluate_labels(&[], &labels, 0), refused);
-    assert_eq!(circuit.evaluate_labels(&rows, &labels[1..], 0), refused);
+    assert_eq!(bare(circuit.evaluate_labels(&[], &labels, 0)), refused);
     assert_eq!(
-        circuit.evaluate_labels(&rows, &labels, 1 << 62),
+        bare(circuit.evaluate_labels(&rows, &labels[1..], 0)),
+        refused
+    );
+    assert_eq!(
+        bare(circuit.evaluate_labels(&rows, &labels, 1 << 62)),
         Err(Fault::BAD_ARGUMENT)
     );
-    assert_eq!(decode(&labels, &[true]), Err(Fault::WRONG_SIZE));
+    assert_eq!(bare(decode(&labels, &[true])), Err(Fault::WRONG_SIZE));
     assert_eq!(decode(&[], &[]), Ok(Vec::new()));
 }
 
@@ -451,7 +459,7 @@ fn pieces_of_each_size() {
             assert_eq!(garbler.output_labels(index), garbling.output_labels(index));
         }
         assert_eq!(garbler.decode_bits(), garbling.decode_bits());
-        let expected = circuit.evaluate_labels(&rows, &labels, 0);
+        let expected = bare(circuit.evaluate_labels(&rows, &labels, 0));
         assert_eq!((evaluator.left(), evaluator.output_labels()), (0, expected));
     }
 }
@@ -482,7 +490,7 @@ fn bytes_that_end_within_a_row_pair() {
     assert_eq!(sent, bytes);
     assert_eq!(
         evaluator.output_labels(),
-        circuit.evaluate_labels(&rows, &[[1; 16], [2; 16]], 0)
+        bare(circuit.evaluate_labels(&rows, &[[1; 16], [2; 16]], 0))
     );
 }
 
@@ -492,16 +500,14 @@ fn what_streaming_refuses() {
     let (mut garbler, offset) = (circuit.garbler(&SEED).unwrap(), [1; 16]);
     let mut evaluator = circuit.evaluator(0, &[[3; 16]; 3]).unwrap();
     let begin = |offset, count, first| {
-        circuit
-            .garbler_from(offset, &[[3; 16]; 4][..count], first)
-            .map(drop)
+        bare(circuit.garbler_from(offset, &[[3; 16]; 4][..count], first)).map(drop)
     };
     assert_eq!(begin(&offset, 3, (1 << 62) - 1), Ok(()));
     assert_eq!(begin(&offset, 3, 1 << 62), Err(Fault::BAD_ARGUMENT));
     assert_eq!(begin(&[2; 16], 3, 0), Err(Fault::BAD_ARGUMENT));
     assert_eq!(begin(&[2; 16], 2, 0), Err(Fault::WRONG_SIZE));
     assert_eq!(begin(&offset, 4, 0), Err(Fault::WRONG_SIZE));
-    let begin = |count, first| circuit.evaluator(first, &[[3; 16]; 4][..count]).map(drop);
+    let begin = |count, first| bare(circuit.evaluator(first, &[[3; 16]; 4][..count])).map(drop);
     assert_eq!(begin(3, 1 << 62), Err(Fault::BAD_ARGUMENT));
     assert_eq!(begin(2, 1 << 62), Err(Fault::WRONG_SIZE));
 
@@ -510,12 +516,15 @@ fn what_streaming_refuses() {
     }
     assert_eq!(garbler.decode_bits(), Err(Fault::UNFINISHED));
     assert_eq!(garbler.input_labels(3), Err(Fault::NO_SUCH_VALUE));
-    assert_eq!(garbler.bytes_into(&mut [0; 31]), Err(Fault::SMALL_BUFFER));
-    assert_eq!(garbler.rows_into(&mut []), Err(Fault::SMALL_BUFFER));
+    assert_eq!(
+        bare(garbler.bytes_into(&mut [0; 31])),
+        Err(Fault::SMALL_BUFFER)
+    );
+    assert_eq!(bare(garbler.rows_into(&mut [])), Err(Fault::SMALL_BUFFER));
     assert_eq!(evaluator.output_labels(), Err(Fault::UNFINISHED));
     let mut rows = [RowPair::from([7; 32]); 2];
-    assert_eq!(evaluator.feed_rows(&rows), Err(Fault::WRONG_SIZE));
-    assert_eq!(evaluator.feed(&[0; 64]), Err(Fault::WRONG_SIZE));
+    assert_eq!(bare(evaluator.feed_rows(&rows)), Err(Fault::WRONG_SIZE));
+    assert_eq!(bare(evaluator.feed(&[0; 64])), Err(Fault::WRONG_SIZE));
     assert_eq!((garbler.left(), evaluator.left()), (1, 1));
 
     assert_eq!(garbler.rows_into(&mut rows), Ok(1));
@@ -525,7 +534,7 @@ fn what_streaming_refuses() {
     assert_eq!(garbler.output_labels(1), Err(Fault::NO_SUCH_VALUE));
     assert_eq!(evaluator.feed(&[0; 63]), Ok(32));
     assert_eq!(evaluator.feed(&[0; 31]), Ok(0));
-    assert_eq!(evaluator.feed(&[0; 32]), Err(Fault::WRONG_SIZE));
+    assert_eq!(bare(evaluator.feed(&[0; 32])), Err(Fault::WRONG_SIZE));
     assert_eq!(
         format!("{garbler:?} {evaluator:?}"),
         "Garbler { left: 0, .. } Evaluator { left: 0, .. }"
@@ -627,15 +636,15 @@ fn labels_that_are_opened() {
     let (zero, mut wrong) = ([pairs[0][0], pairs[1][0]], [pairs[0][0], pairs[1][0]]);
     for byte in 0..16 {
         wrong[1][byte] ^= 1;
-        assert_eq!(garbling.open(0, &wrong), Err(Fault::WRONG_LABEL));
+        assert_eq!(bare(garbling.open(0, &wrong)), Err(Fault::WRONG_LABEL));
         wrong[1][byte] ^= 1;
     }
-    assert_eq!(garbling.open(0, &zero[..1]), Err(Fault::WRONG_SIZE));
+    assert_eq!(bare(garbling.open(0, &zero[..1])), Err(Fault::WRONG_SIZE));
     assert_eq!(
-        garbling.open(0, &[zero[1], zero[0]]),
+        bare(garbling.open(0, &[zero[1], zero[0]])),
         Err(Fault::WRONG_LABEL)
     );
-    assert_eq!(garbling.open(1, &zero), Err(Fault::NO_SUCH_VALUE));
+    assert_eq!(bare(garbling.open(1, &zero)), Err(Fault::NO_SUCH_VALUE));
 }
 
 #[test]
@@ -762,6 +771,169 @@ fn audits_of_label_files() {
         wide.audit_labels(&files[0]).unwrap().verdict,
         Verdict::WrongWidth
     );
+}
+
+#[test]
+fn audits_of_rows() {
+    let circuit = adder();
+    let zero = zero_labels(&garbling());
+    for first in [0, 1, (1 << 62) - 1] {
+        let garbling = circuit.garble_from(&[1; 16], &zero, first).unwrap();
+        let (rows, bits) = (garbling.rows().unwrap(), garbling.decode_bits().unwrap());
+        let audit = |rows: &[RowPair], bits: &[bool]| garbling.audit_rows(rows, bits).unwrap();
+        let report = audit(&rows, &bits);
+        assert_eq!(
+            (report.is_honest, report.row, report.decode_bit),
+            (true, None, None)
+        );
+        for byte in 0..32 {
+            let mut wrong = rows[0].to_bytes();
+            wrong[byte] ^= 0x10;
+            let report = audit(&[wrong.into()], &bits);
+            let row = report.row.unwrap();
+            assert_eq!((report.is_honest, report.decode_bit), (false, None));
+            assert_eq!((row.row, row.gate, row.wire), (0, 2, 5));
+            assert_eq!((row.generator, row.evaluator), (byte < 16, byte >= 16));
+        }
+        let report = audit(&rows, &[bits[0], !bits[1]]);
+        assert_eq!(
+            (report.is_honest, report.row, report.decode_bit),
+            (false, None, Some(1))
+        );
+        assert_eq!(audit(&rows, &[!bits[0], !bits[1]]).decode_bit, Some(0));
+
+        let labels = garbling.deal(1, &[true]).unwrap();
+        let verdict = garbling.audit_labels(&labels).unwrap().verdict;
+        assert_eq!(verdict, Verdict::Honest(vec![true]));
+
+        let refused = |rows: &[RowPair], bits: &[bool]| bare(garbling.audit_rows(rows, bits));
+        assert_eq!(refused(&[], &bits), Err(Fault::WRONG_SIZE));
+        assert_eq!(refused(&[rows[0]; 2], &[]), Err(Fault::WRONG_SIZE));
+        assert_eq!(refused(&rows, &bits[1..]), Err(Fault::WRONG_LENGTH));
+    }
+}
+
+#[test]
+fn circuits_without_a_digest() {
+    let with = adder();
+    let gates = [
+        Gate::xor(0, 2, 3),
+        Gate::xor(1, 2, 4),
+        Gate::and(3, 4, 5),
+        Gate::xor(3, 1, 6),
+        Gate::xor(5, 2, 7),
+    ];
+    let file = garbling().write(Version::V2).unwrap();
+    let files = label_files(&garbling());
+    for mut circuit in [
+        Circuit::read_without_digest(FULL_ADDER).unwrap(),
+        Circuit::from_gates_without_digest(&gates, 8, &[1, 1, 1], &[2]).unwrap(),
+    ] {
+        let garbling = circuit.garble(&SEED).unwrap();
+        let many = circuit.garble_many(&[SEED; 3]).unwrap();
+        let shared = circuit.share().unwrap();
+        assert_eq!(circuit.text(), with.text());
+        assert_eq!(garbling.rows(), with.garble(&SEED).unwrap().rows());
+        for it in [&circuit, &shared, &circuit.order().unwrap()] {
+            assert_eq!(it.digest(), Err(Fault::NO_DIGEST));
+            assert_eq!(it.bind(&file, &files).unwrap_err(), Fault::NO_DIGEST);
+        }
+        let refuses = |garbling: &Garbling| {
+            for version in [Version::V1, Version::V2] {
+                let into = garbling.write_into(version, &mut [0; 177]);
+                assert_eq!(garbling.write(version), Err(Fault::NO_DIGEST));
+                assert_eq!(bare(into), Err(Fault::NO_DIGEST));
+                assert_eq!(write_many(&[garbling], version), Err(Fault::NO_DIGEST));
+            }
+            assert_eq!(garbling.audit(&file), Err(Fault::NO_DIGEST));
+        };
+        many.iter().for_each(refuses);
+        refuses(&garbling);
+
+        circuit.take_digest().unwrap();
+        assert_eq!(circuit.digest(), with.digest());
+        assert_eq!(circuit.take_digest(), Ok(()));
+        assert_eq!(circuit.share().unwrap().digest(), with.digest());
+        assert_eq!(
+            circuit.order().unwrap().digest(),
+            with.order().unwrap().digest()
+        );
+        assert_eq!(shared.digest(), Err(Fault::NO_DIGEST));
+        refuses(&garbling);
+        assert_eq!(
+            circuit.garble(&SEED).unwrap().write(Version::V2).as_ref(),
+            Ok(&file)
+        );
+        let job = circuit.bind(&file, &files).unwrap();
+        assert_eq!(job.evaluate(), circuit.plain(&BITS));
+    }
+    let unset = Circuit::read_without_digest(FULL_ADDER.replace("3 4 5", "3 6 5"));
+    assert_eq!(unset.unwrap_err(), Fault::UNSET);
+    let fault = Circuit::from_gates_without_digest(&gates[1..], 8, &[1, 1, 1], &[2]).unwrap_err();
+    assert_eq!(
+        (fault.fault, fault.gate, fault.wire),
+        (Fault::UNSET, Some(1), Some(3))
+    );
+}
+
+#[test]
+fn faults_that_say_sizes() {
+    let (circuit, garbling) = (adder(), garbling());
+    let (rows, offset) = (garbling.rows().unwrap(), [1; 16]);
+    let says = |fault: SizeFault, text: &str| assert_eq!(fault.to_string(), text);
+    let wrong = "fault 66 WrongSize: zero_labels has length 2, where 3 is expected";
+    says(
+        circuit.garble_from(&offset, &[[2; 16]; 2], 0).unwrap_err(),
+        wrong,
+    );
+    says(
+        circuit.garbler_from(&offset, &[[2; 16]; 2], 0).unwrap_err(),
+        wrong,
+    );
+    let wrong = "fault 66 WrongSize: labels has length 4, where 3 is expected";
+    says(circuit.evaluator(0, &[[2; 16]; 4]).unwrap_err(), wrong);
+    says(
+        circuit
+            .evaluate_labels(&rows, &[[2; 16]; 4], 0)
+            .unwrap_err(),
+        wrong,
+    );
+    let wrong = "fault 66 WrongSize: rows has length 0, where 1 is expected";
+    says(circuit.evaluate_labels(&[], &[], 0).unwrap_err(), wrong);
+    says(garbling.audit_rows(&[], &[]).unwrap_err(), wrong);
+    let wrong = "fault 66 WrongSize: labels has length 2, where 1 is expected";
+    says(circuit.label_file(2, &[[2; 16]; 2]).unwrap_err(), wrong);
+    says(decode(&[[2; 16]; 2], &[true]).unwrap_err(), wrong);
+    let wrong = "fault 66 WrongSize: labels has length 0, where 2 is expected";
+    says(garbling.open(0, &[]).unwrap_err(), wrong);
+    let mut evaluator = circuit.evaluator(0, &[[2; 16]; 3]).unwrap();
+    let wrong = "fault 66 WrongSize: rows has length 2, where 1 is expected";
+    says(evaluator.feed_rows(&[rows[0]; 2]).unwrap_err(), wrong);
+    let wrong = "fault 66 WrongSize: rows has length 64, where 32 is expected";
+    says(evaluator.feed(&[0; 64]).unwrap_err(), wrong);
+    let small = "fault 61 SmallBuffer: buffer has length 176, where at least 177 is expected";
+    says(
+        garbling.write_into(Version::V2, &mut [0; 176]).unwrap_err(),
+        small,
+    );
+    let mut garbler = circuit.garbler(&SEED).unwrap();
+    let small = "fault 61 SmallBuffer: bytes has length 31, where at least 32 is expected";
+    says(garbler.bytes_into(&mut [0; 31]).unwrap_err(), small);
+    let small = "fault 61 SmallBuffer: rows has length 0, where at least 1 is expected";
+    says(garbler.rows_into(&mut []).unwrap_err(), small);
+
+    let fault = circuit.evaluator(0, &[]).unwrap_err();
+    let Slice {
+        name,
+        given,
+        expected,
+        ..
+    } = fault.slice.unwrap();
+    assert_eq!((name, given, expected), ("labels", 0, 3));
+    assert_eq!(fault, Fault::WRONG_SIZE);
+    let other = circuit.label_file(3, &[]).unwrap_err();
+    assert_eq!((other.fault, other.slice), (Fault::NO_SUCH_VALUE, None));
+    assert_eq!(other.to_string(), "fault 42 NoSuchValue");
 }
 
 #[test]

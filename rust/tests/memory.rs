@@ -45,7 +45,7 @@ fn handles_are_freed() -> Result<(), Fault> {
     assert_freed(|| circuit.garble_many(&[[1; 32]; 2]).map(drop));
     assert_freed(|| circuit.bind(&file, &labels).map(drop));
     assert_freed(|| circuit.garbler(&[1; 32]).map(drop));
-    assert_freed(|| circuit.evaluator(0, &[[1; 16]; 2]).map(drop));
+    assert_freed(|| Ok(circuit.evaluator(0, &[[1; 16]; 2]).map(drop)?));
     let gates: Vec<Gate> = (2..)
         .map(|it| Gate::and(it - 1, 0, it))
         .take(GATES)

@@ -27,9 +27,14 @@ static void circuits(halfgates_circuit *circuit) {
     CHECK_CODE(HALFGATES_CIRCUIT_TRUNCATED, halfgates_circuit_read(NULL, 0, &made));
     CHECK_CODE(HALFGATES_CIRCUIT_TRUNCATED, halfgates_circuit_read(text, 0, &made));
     CHECK_CODE(HALFGATES_BAD_NUMBER, halfgates_circuit_read((const uint8_t *)"1\0002", 3, &made));
+    CHECK_CODE(ABSENT, halfgates_circuit_read_without_digest(text, length, NULL));
+    CHECK_CODE(HALFGATES_CIRCUIT_TRUNCATED, halfgates_circuit_read_without_digest(text, 0, &made));
+    CHECK_CODE(HALFGATES_BAD_NUMBER, halfgates_circuit_read_without_digest((const uint8_t *)"1\0002", 3, &made));
+    CHECK_CODE(ABSENT, halfgates_circuit_take_digest(NULL));
     CHECK_CODE(ABSENT, halfgates_circuit_order(NULL, &made));
     CHECK_CODE(ABSENT, halfgates_circuit_order(circuit, NULL));
     CHECK_CODE(ABSENT, halfgates_circuit_from_gates(NULL, 0, 0, NULL, 0, NULL, 0, NULL, &place));
+    CHECK_CODE(ABSENT, halfgates_circuit_from_gates_without_digest(NULL, 0, 0, NULL, 0, NULL, 0, NULL, &place));
     CHECK(made == NULL);
     CHECK_CODE(ABSENT, halfgates_circuit_text(NULL, room, sizeof room, &written));
     CHECK_CODE(ABSENT, halfgates_circuit_text(circuit, room, sizeof room, NULL));
@@ -235,8 +240,24 @@ static void jobs(halfgates_circuit *circuit, halfgates_job *job) {
 }
 
 static void audits(halfgates_garbling *garbling) {
+    const uint8_t digits[3] = {0, 2, 0}, *const rows = garbled + 48;
     halfgates_audit_report report;
+    halfgates_rows_report rows_report, untouched;
     halfgates_labels_report labels_report;
+    memset(&rows_report, 0xA5, sizeof rows_report);
+    memset(&untouched, 0xA5, sizeof untouched);
+    CHECK_CODE(ABSENT, halfgates_audit_rows(NULL, rows, 32, BITS, 2, &rows_report));
+    CHECK_CODE(ABSENT, halfgates_audit_rows(garbling, rows, 32, BITS, 2, NULL));
+    CHECK_CODE(HALFGATES_WRONG_SIZE, halfgates_audit_rows(garbling, rows, 31, BITS, 3, &rows_report));
+    CHECK_CODE(HALFGATES_WRONG_SIZE, halfgates_audit_rows(garbling, rows, 33, digits, 2, &rows_report));
+    CHECK_CODE(HALFGATES_WRONG_SIZE, halfgates_audit_rows(garbling, rows, 64, BITS, 2, &rows_report));
+    CHECK_CODE(HALFGATES_WRONG_SIZE, halfgates_audit_rows(garbling, NULL, 0, BITS, 2, &rows_report));
+    CHECK_CODE(HALFGATES_WRONG_LENGTH, halfgates_audit_rows(garbling, rows, 32, digits, 3, &rows_report));
+    CHECK_CODE(HALFGATES_WRONG_LENGTH, halfgates_audit_rows(garbling, rows, 32, BITS, 1, &rows_report));
+    CHECK_CODE(HALFGATES_WRONG_LENGTH, halfgates_audit_rows(garbling, rows, 32, NULL, 0, &rows_report));
+    CHECK_CODE(HALFGATES_BAD_DIGIT, halfgates_audit_rows(garbling, rows, 32, digits, 2, &rows_report));
+    CHECK_CODE(HALFGATES_BAD_DIGIT, halfgates_audit_rows(garbling, labels, 32, digits, 2, &rows_report));
+    CHECK(memcmp(&rows_report, &untouched, sizeof untouched) == 0);
     CHECK_CODE(ABSENT, halfgates_audit(NULL, garbled, 177, &report));
     CHECK_CODE(ABSENT, halfgates_audit(garbling, garbled, 177, NULL));
     CHECK_CODE(HALFGATES_FILE_TRUNCATED, halfgates_audit(garbling, NULL, 0, &report));
@@ -360,6 +381,7 @@ static void other_types(void *circuit, void *garbling, void *job, void *garbler,
     halfgates_evaluator *made_evaluator = NULL;
     halfgates_numbers numbers;
     halfgates_audit_report report;
+    halfgates_rows_report rows_report;
     halfgates_labels_report labels_report;
     halfgates_wire_labels found[1];
     uint32_t widths[3];
@@ -371,6 +393,7 @@ static void other_types(void *circuit, void *garbling, void *job, void *garbler,
     void *const no_evaluators[4] = {circuit, garbling, job, garbler};
     for (int i = 0; i < 4; i++) {
         CHECK_CODE(OTHER, halfgates_circuit_share(no_circuits[i], &made));
+        CHECK_CODE(OTHER, halfgates_circuit_take_digest(no_circuits[i]));
         CHECK_CODE(OTHER, halfgates_circuit_order(no_circuits[i], &made));
         CHECK_CODE(OTHER, halfgates_circuit_text(no_circuits[i], room, sizeof room, &written));
         CHECK_CODE(OTHER, halfgates_circuit_numbers(no_circuits[i], &numbers));
@@ -407,6 +430,7 @@ static void other_types(void *circuit, void *garbling, void *job, void *garbler,
         CHECK_CODE(OTHER, halfgates_decode_bit(no_garblings[i], 0, room));
         CHECK_CODE(OTHER, halfgates_labels(no_garblings[i], BITS, 3, 0, found, 1));
         CHECK_CODE(OTHER, halfgates_audit(no_garblings[i], garbled, 177, &report));
+        CHECK_CODE(OTHER, halfgates_audit_rows(no_garblings[i], garbled, 31, BITS, 2, &rows_report));
         CHECK_CODE(OTHER, halfgates_audit_labels(no_garblings[i], labels, 32, room, 1, &labels_report));
 
         CHECK_CODE(OTHER, halfgates_evaluate(no_jobs[i], room, 2));
@@ -438,7 +462,8 @@ static void names(void) {
     CHECK(strcmp(halfgates_fault_name(HALFGATES_WRONG_HANDLE).text, "WrongHandle") == 0);
     CHECK(strcmp(halfgates_fault_name(HALFGATES_WRONG_SIZE).text, "WrongSize") == 0);
     CHECK(strcmp(halfgates_fault_name(HALFGATES_UNFINISHED).text, "Unfinished") == 0);
-    CHECK(strcmp(halfgates_fault_name(HALFGATES_UNFINISHED + 1).text, "Unknown") == 0);
+    CHECK(strcmp(halfgates_fault_name(HALFGATES_NO_DIGEST).text, "NoDigest") == 0);
+    CHECK(strcmp(halfgates_fault_name(HALFGATES_NO_DIGEST + 1).text, "Unknown") == 0);
     CHECK(strcmp(halfgates_fault_name(-1).text, "Unknown") == 0);
     CHECK(strcmp(halfgates_fault_name(INT32_MIN).text, "Unknown") == 0);
     CHECK(strcmp(halfgates_fault_name(INT32_MAX).text, "Unknown") == 0);

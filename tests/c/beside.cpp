@@ -156,6 +156,62 @@ halfgates_audit_report check_audit(const halfgates::garbling &garbling, halfgate
     return found;
 }
 
+/* The same of row pairs and decode bits, with a byte or a bit that is wrong. */
+void check_rows(const halfgates::garbling &garbling) {
+    bytes rows = garbling.rows(), bits = garbling.decode_bits();
+    const auto check = [&](bool honest) {
+        halfgates_rows_report expected;
+        CHECK_CODE(0, halfgates_audit_rows(garbling.get(), rows.data(), rows.size(), bits.data(), bits.size(),
+                                           &expected));
+        const halfgates_rows_report found = garbling.audit_rows(rows, bits);
+        CHECK(found.honest == honest && found.honest == expected.honest && found.decode_bit == expected.decode_bit);
+        CHECK(found.generator == expected.generator && found.evaluator == expected.evaluator);
+        CHECK(found.row == expected.row && found.gate == expected.gate && found.wire == expected.wire);
+        const std::vector<bool> truths(bits.begin(), bits.end());
+        CHECK(garbling.audit_rows(rows, truths).decode_bit == expected.decode_bit);
+    };
+    check(true);
+    for (std::uint8_t &it : rows) {
+        it ^= 4;
+        check(false);
+        it ^= 4;
+    }
+    for (std::uint8_t &it : bits) {
+        it ^= 1;
+        check(false);
+        it ^= 1;
+    }
+    throws(66, [&] { (void)garbling.audit_rows(bytes(32 * ANDS - 1), {}); });
+    throws(16, [&] { (void)garbling.audit_rows(rows, {0, 1}); });
+    throws(15, [&] { (void)garbling.audit_rows(rows, {0, 1, 2}); });
+}
+
+/* A circuit without its digest is the same circuit. */
+void check_digests(const std::string &text, const halfgates::circuit &circuit) {
+    halfgates::circuit bare = halfgates::circuit::read_without_digest(text);
+    halfgates::circuit shared = bare.share();
+    const halfgates::garbling garbling = bare.garble(seed_of(SEED));
+    CHECK(bare.text() == circuit.text() && bare.input_widths() == circuit.input_widths());
+    CHECK(garbling.rows() == circuit.garble(seed_of(SEED)).rows());
+    throws(68, [&] { (void)bare.digest(); });
+    throws(68, [&] { (void)bare.order().digest(); });
+    throws(68, [&] { (void)bare.bind({}, {}); });
+    throws(68, [&] { (void)garbling.write(); });
+    throws(68, [&] { (void)garbling.garbled_size(); });
+    throws(68, [&] { (void)garbling.audit({}); });
+    std::vector<halfgates::garbling> list;
+    list.push_back(bare.garble(seed_of(SEED)));
+    throws(68, [&] { (void)halfgates::write_many(list); });
+    bare.take_digest();
+    CHECK(bare.digest() == circuit.digest() && bare.share().digest() == circuit.digest());
+    CHECK(bare.garble(seed_of(SEED)).write() == circuit.garble(seed_of(SEED)).write());
+    throws(68, [&] { (void)shared.digest(); });
+    throws(68, [&] { (void)garbling.write(); });
+    shared = std::move(bare);
+    CHECK(shared.digest() == circuit.digest());
+    throws(64, [&] { bare.take_digest(); });
+}
+
 void check_audits(const halfgates::circuit &circuit, const halfgates::garbling &garbling, int count, char **forged) {
     halfgates::circuit other(std::string("1 3\n2 1 1\n1 1\n\n2 1 0 1 2 AND\n"));
     const bytes first = garbling.write(1), second = garbling.write(2), another = other.garble(seed_of(SEED)).write();
@@ -239,6 +295,8 @@ void check_own_labels(const halfgates::circuit &circuit) {
         zeros[wire].fill(wire + 1);
     halfgates::garbling garbling = circuit.garble_from(offset, zeros, first);
     CHECK(garbling.offset() == offset);
+    check_rows(garbling);
+    CHECK(garbling.audit_labels(garbling.deal(1, {1, 0})).bits == bytes({1, 0}));
     for (std::uint8_t number = 0; number < 8; number++) {
         const std::array<std::uint8_t, INPUTS> bits = bits_of(number);
         halfgates::label_pairs pairs[] = {garbling.input_labels(0), garbling.input_labels(1)};
@@ -332,6 +390,10 @@ void check_gates(const halfgates::circuit &circuit) {
     std::vector<halfgates_gate> gates = {{AND, 0, 1, 3}, {XOR, 0, 2, 4}, {AND, 4, 2, 5},
                                          {INV, 3, 0, 6}, {AND, 5, 1, 7}, {XOR, 4, 5, 8}};
     CHECK(halfgates::circuit::from_gates(gates, WIRES, {1, 2}, {2, 1}).digest() == circuit.digest());
+    halfgates::circuit bare = halfgates::circuit::from_gates_without_digest(gates, WIRES, {1, 2}, {2, 1});
+    throws(68, [&] { (void)bare.digest(); });
+    bare.take_digest();
+    CHECK(bare.digest() == circuit.digest());
     gates[4].second = 8;
     try {
         (void)halfgates::circuit::from_gates(gates, WIRES, {1, 2}, {2, 1});
@@ -339,6 +401,7 @@ void check_gates(const halfgates::circuit &circuit) {
     } catch (const halfgates::gate_fault &fault) {
         CHECK(fault.code() == HALFGATES_UNSET && fault.gate() == 4 && fault.wire() == 8);
     }
+    throws(8, [&] { (void)halfgates::circuit::from_gates_without_digest(gates, WIRES, {1, 2}, {2, 1}); });
     try {
         (void)halfgates::circuit::from_gates({}, 1, {1, 2}, {});
         CHECK(!"it throws");
@@ -393,6 +456,8 @@ int main(int count, char **words) {
     check_pairs(garbling);
     check_files(circuit, garbling);
     check_audits(circuit, garbling, count - 2, words + 2);
+    check_rows(garbling);
+    check_digests(text, circuit);
     check_jobs(circuit, garbling);
     check_lists_of_jobs(circuit, garbling);
     check_own_labels(circuit);

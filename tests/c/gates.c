@@ -1,4 +1,7 @@
-/* Circuits from arrays of gates: what reading their text gives, the fault with its gate and its wire among it. */
+/*
+ * Circuits from arrays of gates, with their digests and without: what reading their text gives, the fault with its gate
+ * and its wire among it.
+ */
 #include "check.h"
 
 enum { MOST = 6, ROUNDS = 200000 };
@@ -46,10 +49,32 @@ static size_t spell(char *text) {
     return (size_t)(end - text);
 }
 
+static int32_t take_by(__typeof__(halfgates_circuit_from_gates) *call, halfgates_circuit **circuit,
+                       halfgates_place *place) {
+    return call(arrays.gates, arrays.count, arrays.wires, arrays.input_widths, arrays.input_values,
+                arrays.output_widths, arrays.output_values, circuit, place);
+}
+
 static int32_t take(halfgates_circuit **circuit, halfgates_place *place) {
-    return halfgates_circuit_from_gates(arrays.gates, arrays.count, arrays.wires, arrays.input_widths,
-                                        arrays.input_values, arrays.output_widths, arrays.output_values, circuit,
-                                        place);
+    return take_by(halfgates_circuit_from_gates, circuit, place);
+}
+
+/* Without a digest the arrays give the same code, place and text, and the digest is taken later. */
+static void compare_without_digest(int32_t code, const halfgates_place *wanted, const uint8_t digest[32]) {
+    uint8_t taken[32];
+    halfgates_circuit *circuit = NULL;
+    halfgates_place found = {.fault = 77, .gate = 77, .wire = 77, .line = 77, .column = 77};
+    CHECK_CODE(code, take_by(halfgates_circuit_from_gates_without_digest, &circuit, &found));
+    CHECK(found.fault == wanted->fault && found.gate == wanted->gate && found.wire == wanted->wire);
+    CHECK(found.line == wanted->line && found.column == wanted->column);
+    CHECK((circuit == NULL) == (code != HALFGATES_OK));
+    if (circuit == NULL)
+        return;
+    CHECK_CODE(HALFGATES_NO_DIGEST, halfgates_circuit_digest(circuit, taken));
+    CHECK_CODE(HALFGATES_OK, halfgates_circuit_take_digest(circuit));
+    CHECK_CODE(HALFGATES_OK, halfgates_circuit_digest(circuit, taken));
+    CHECK(memcmp(taken, digest, 32) == 0);
+    halfgates_circuit_free(circuit);
 }
 
 /* The arrays give what their text gives. Returns the code. */
@@ -73,6 +98,7 @@ static int32_t compare(void) {
         CHECK(found.line == 0 && found.column == 0);
         CHECK_CODE(code, take(&taken, NULL));
     }
+    compare_without_digest(code, &found, digest);
     halfgates_circuit_free(read);
     halfgates_circuit_free(taken);
     return code;

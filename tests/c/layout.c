@@ -51,6 +51,15 @@ AT(halfgates_audit_report, wire, 16);
 AT(halfgates_audit_report, decode_bit, 20);
 AT(halfgates_audit_report, entry, 24);
 
+SIZE(halfgates_rows_report, 20);
+AT(halfgates_rows_report, honest, 0);
+AT(halfgates_rows_report, generator, 1);
+AT(halfgates_rows_report, evaluator, 2);
+AT(halfgates_rows_report, row, 4);
+AT(halfgates_rows_report, gate, 8);
+AT(halfgates_rows_report, wire, 12);
+AT(halfgates_rows_report, decode_bit, 16);
+
 SIZE(halfgates_labels_report, 16);
 AT(halfgates_labels_report, verdict, 0);
 AT(halfgates_labels_report, index, 4);

@@ -262,6 +262,21 @@ static void order(const halfgates_circuit *circuit) {
     halfgates_circuit_free(ordered);
 }
 
+/* A circuit of a text, and one of a gate, without their digests. Taking the digest allocates nothing. */
+static void leave_digest(const uint8_t *text, size_t length) {
+    const halfgates_gate constant = {HALFGATES_EQ, 1, 0, 0};
+    const uint32_t width = 1;
+    halfgates_circuit *circuits[2] = {NULL, NULL};
+    CALL(halfgates_circuit_read_without_digest(text, length, &circuits[0]));
+    CALL(halfgates_circuit_from_gates_without_digest(&constant, 1, 1, NULL, 0, &width, 1, &circuits[1], NULL));
+    const long before = growths;
+    for (int i = 0; i < 2; i++) {
+        CHECK_CODE(HALFGATES_OK, halfgates_circuit_take_digest(circuits[i]));
+        halfgates_circuit_free(circuits[i]);
+    }
+    CHECK(growths == before);
+}
+
 /* All calls that allocate. */
 static void work(void) {
     const uint8_t *text = (const uint8_t *)FULL_ADDER, seed[32] = {5}, bits[3] = {1, 0, 1};
@@ -277,8 +292,10 @@ static void work(void) {
     halfgates_sentence sentence;
     halfgates_wire_labels found[8];
     halfgates_audit_report report;
+    halfgates_rows_report rows_report;
     halfgates_labels_report labels_report;
 
+    leave_digest(text, strlen(FULL_ADDER));
     CALL(halfgates_locate(text, strlen(FULL_ADDER), &place));
     CALL(halfgates_explain(text, strlen(FULL_ADDER) - 9, &sentence));
     CHECK(strcmp(sentence.text, "gate 4: the text ends before the circuit does") == 0);
@@ -302,6 +319,9 @@ static void work(void) {
     CALL(halfgates_labels(garbling, bits, 3, 0, found, 8));
     CALL(halfgates_audit(garbling, garbled, sizeof garbled, &report));
     CHECK(report.honest);
+    CALL(halfgates_decode_bits(garbling, outputs, sizeof outputs));
+    CALL(halfgates_audit_rows(garbling, garbled + 48, 32, outputs, sizeof outputs, &rows_report));
+    CHECK(rows_report.honest);
     CALL(halfgates_audit_labels(garbling, labels, 32, found_bits, 1, &labels_report));
     CHECK(labels_report.verdict == HALFGATES_OK && found_bits[0] == 1);
     CALL(halfgates_job_bind(circuit, garbled, sizeof garbled, labels, sizeof labels, sizes, 3, &job));

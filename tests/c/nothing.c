@@ -34,6 +34,7 @@ static void check_circuit(const char *text, size_t values) {
     halfgates_garbling *garbling = NULL, *own = NULL;
     halfgates_job *job = NULL;
     halfgates_audit_report report;
+    halfgates_rows_report rows_report;
     uint8_t garbled[128], again[128], labels[64];
     uint32_t widths[2] = {1, 1};
     size_t size, written, lengths[2] = {16, 16};
@@ -53,6 +54,8 @@ static void check_circuit(const char *text, size_t values) {
     CHECK_CODE(HALFGATES_OK, halfgates_labels(garbling, NULL, 0, 0, NULL, 0));
     CHECK_CODE(HALFGATES_OK, halfgates_rows(garbling, NULL, 0));
     CHECK_CODE(HALFGATES_OK, halfgates_decode_bits(garbling, NULL, 0));
+    CHECK_CODE(HALFGATES_OK, halfgates_audit_rows(garbling, NULL, 0, NULL, 0, &rows_report));
+    CHECK(rows_report.honest == 1);
     CHECK_CODE(HALFGATES_OK, halfgates_evaluate_labels(circuit, NULL, 0, 0, NULL, 0, NULL, 0));
     CHECK_CODE(HALFGATES_OK, halfgates_rows_range(garbling, 0, 0, NULL, 0));
     check_streaming(circuit, values);
@@ -112,8 +115,10 @@ static void check_files(void) {
     halfgates_place place;
     halfgates_sentence sentence;
     halfgates_audit_report report;
+    halfgates_rows_report rows_report;
     halfgates_labels_report labels_report;
     CHECK_CODE(HALFGATES_CIRCUIT_TRUNCATED, halfgates_circuit_read(NULL, 0, &circuit));
+    CHECK_CODE(HALFGATES_CIRCUIT_TRUNCATED, halfgates_circuit_read_without_digest(NULL, 0, &circuit));
     CHECK(circuit == NULL);
     CHECK_CODE(HALFGATES_OK, halfgates_locate(NULL, 0, &place));
     CHECK(place.fault == HALFGATES_CIRCUIT_TRUNCATED && place.line == 1 && place.column == 1);
@@ -121,10 +126,13 @@ static void check_files(void) {
     CHECK(strcmp(sentence.text, "the text ends before the circuit does") == 0);
     CHECK_CODE(HALFGATES_OK, halfgates_circuit_from_gates(NULL, 0, 0, NULL, 0, NULL, 0, &circuit, NULL));
     halfgates_circuit_free(circuit);
+    CHECK_CODE(HALFGATES_OK, halfgates_circuit_from_gates_without_digest(NULL, 0, 0, NULL, 0, NULL, 0, &circuit, NULL));
+    halfgates_circuit_free(circuit);
     circuit = read_text(FULL_ADDER);
     CHECK_CODE(HALFGATES_OK, halfgates_garble(circuit, SEED, &garbling));
     CHECK_CODE(HALFGATES_FILE_TRUNCATED, halfgates_job_bind(circuit, NULL, 0, NULL, 0, NULL, 0, &job));
     CHECK_CODE(HALFGATES_FILE_TRUNCATED, halfgates_audit(garbling, NULL, 0, &report));
+    CHECK_CODE(HALFGATES_WRONG_SIZE, halfgates_audit_rows(garbling, NULL, 0, NULL, 0, &rows_report));
     CHECK_CODE(HALFGATES_FILE_TRUNCATED, halfgates_audit_labels(garbling, NULL, 0, NULL, 0, &labels_report));
     CHECK(job == NULL);
     CHECK_CODE(HALFGATES_WRONG_LENGTH, halfgates_labels(garbling, NULL, 0, 0, NULL, 0));

@@ -59,6 +59,7 @@ int main(int count, char **words) {
     halfgates_sentence sentence;
     halfgates_wire_labels found[8];
     halfgates_audit_report report;
+    halfgates_rows_report rows_report;
     halfgates_labels_report labels_report;
     if (count > 1) {
         library = dlopen(words[1], RTLD_NOW | RTLD_LOCAL);
@@ -74,11 +75,15 @@ int main(int count, char **words) {
     CHECK_DONE(halfgates_evaluator_begin, circuit, 0, labels, 48, &evaluator);
 
     CHECK_REFUSED(halfgates_circuit_read, NULL, 1, &made);
+    CHECK_REFUSED(halfgates_circuit_read_without_digest, NULL, 1, &made);
     CHECK_REFUSED(halfgates_locate, NULL, 1, &place);
     CHECK_REFUSED(halfgates_explain, NULL, 1, &sentence);
     CHECK_REFUSED(halfgates_circuit_from_gates, NULL, 1, 1, NULL, 0, NULL, 0, &made, &place);
     CHECK_REFUSED(halfgates_circuit_from_gates, NULL, 0, 0, NULL, 1, NULL, 0, &made, &place);
     CHECK_REFUSED(halfgates_circuit_from_gates, NULL, 0, 0, NULL, 0, NULL, 1, &made, &place);
+    CHECK_REFUSED(halfgates_circuit_from_gates_without_digest, NULL, 1, 1, NULL, 0, NULL, 0, &made, &place);
+    CHECK_REFUSED(halfgates_circuit_from_gates_without_digest, NULL, 0, 0, NULL, 1, NULL, 0, &made, &place);
+    CHECK_REFUSED(halfgates_circuit_from_gates_without_digest, NULL, 0, 0, NULL, 0, NULL, 1, &made, &place);
     CHECK_REFUSED(halfgates_circuit_input_widths, circuit, NULL, 1);
     CHECK_REFUSED(halfgates_circuit_input_widths, circuit, NULL, 3);
     CHECK_REFUSED(halfgates_circuit_output_widths, circuit, NULL, 1);
@@ -165,6 +170,10 @@ int main(int count, char **words) {
     CHECK_REFUSED(halfgates_decode, labels, 32, bits, 2, NULL, 2);
     CHECK_REFUSED(halfgates_audit, garbling, NULL, 1, &report);
     CHECK_REFUSED(halfgates_audit, garbling, NULL, 177, &report);
+    CHECK_REFUSED(halfgates_audit_rows, garbling, NULL, 1, bits, 2, &rows_report);
+    CHECK_REFUSED(halfgates_audit_rows, garbling, NULL, 32, bits, 2, &rows_report);
+    CHECK_REFUSED(halfgates_audit_rows, garbling, garbled + 48, 32, NULL, 1, &rows_report);
+    CHECK_REFUSED(halfgates_audit_rows, garbling, garbled + 48, 32, NULL, 2, &rows_report);
     CHECK_REFUSED(halfgates_audit_labels, garbling, NULL, 1, room, 1, &labels_report);
     CHECK_REFUSED(halfgates_audit_labels, garbling, NULL, 32, room, 1, &labels_report);
     CHECK_REFUSED(halfgates_audit_labels, garbling, labels, 32, NULL, 1, &labels_report);

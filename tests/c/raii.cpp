@@ -85,9 +85,12 @@ void check_seeds() {
     CHECK(std::count(differences.begin(), differences.end(), 0) == 0);
     const bytes given(32, 7);
     CHECK(memcmp(halfgates::seed::from_bytes(given).data(), given.data(), 32) == 0);
-    throws(66, "fault 66 WrongSize", [] { (void)halfgates::seed::from_bytes({}); });
-    throws(66, "fault 66 WrongSize", [] { (void)halfgates::seed::from_bytes(bytes(31)); });
-    throws(66, "fault 66 WrongSize", [] { (void)halfgates::seed::from_bytes(bytes(33)); });
+    throws(66, "fault 66 WrongSize: given has 0 bytes, and 32 are expected",
+           [] { (void)halfgates::seed::from_bytes({}); });
+    throws(66, "fault 66 WrongSize: given has 31 bytes, and 32 are expected",
+           [] { (void)halfgates::seed::from_bytes(bytes(31)); });
+    throws(66, "fault 66 WrongSize: given has 33 bytes, and 32 are expected",
+           [] { (void)halfgates::seed::from_bytes(bytes(33)); });
 }
 
 /* What a call returns is as long as the circuit says: it has 3 inputs, 1 AND gate and 2 outputs. Garblings and jobs
@@ -184,8 +187,6 @@ void check_faults() {
     throws(60, "fault 60 BadArgument", [&] { (void)garbling.zero_label(8); });
     throws(31, "fault 31 Truncated", [&] { (void)garbling.audit(bytes{}); });
     throws(31, "fault 31 Truncated", [&] { (void)garbling.audit_labels(bytes{}); });
-    std::uint8_t small[176];
-    throws(61, "fault 61 SmallBuffer", [&] { garbling.write_into(small, sizeof small); });
     for (std::size_t count : {SIZE_MAX, SIZE_MAX / 33, SIZE_MAX / 2, std::size_t(9)}) {
         throws(60, "fault 60 BadArgument", [&] { (void)garbling.labels({1, 0, 1}, 0, count); });
         throws(60, "fault 60 BadArgument", [&] { (void)garbling.labels({1, 0, 1}, UINT32_MAX, count); });
@@ -195,6 +196,49 @@ void check_faults() {
     throws(60, "fault 60 BadArgument", [&] { (void)garbling.labels({1, 0, 1}, 5, SIZE_MAX); });
     for (std::int32_t code = 0; code < 100; code++)
         CHECK(halfgates::fault(code).is_memory() == (halfgates_is_memory(code) != 0));
+}
+
+/* A fault 66 or 61 names the parameter, and says how many bytes it has and how many are expected. */
+void check_sizes_of_faults() {
+    const halfgates::circuit circuit(TEXT);
+    const halfgates::garbling garbling = circuit.garble(seed_of(0));
+    const halfgates::label offset = {{1}};
+    halfgates::garbler garbler = circuit.garbler(seed_of(0));
+    halfgates::evaluator evaluator = circuit.evaluator(0, bytes(48));
+    std::uint8_t small[176];
+    throws(66, "fault 66 WrongSize: zero_labels has 47 bytes, and 48 are expected",
+           [&] { (void)circuit.garble_from(offset, bytes(47), 0); });
+    throws(66, "fault 66 WrongSize: zero_labels has 49 bytes, and 48 are expected",
+           [&] { (void)circuit.garbler_from(offset, bytes(49), 0); });
+    throws(66, "fault 66 WrongSize: active has 0 bytes, and 48 are expected", [&] { (void)circuit.evaluator(0, {}); });
+    throws(66, "fault 66 WrongSize: rows has 33 bytes, and 32 are expected",
+           [&] { (void)circuit.evaluate_labels(bytes(33), bytes(47), 0); });
+    throws(66, "fault 66 WrongSize: active has 47 bytes, and 48 are expected",
+           [&] { (void)circuit.evaluate_labels(bytes(32), bytes(47), 0); });
+    throws(66, "fault 66 WrongSize: received has 32 bytes, and 16 are expected",
+           [&] { (void)circuit.label_file(2, bytes(32)); });
+    throws(66, "fault 66 WrongSize: files has 96 bytes, and 97 are expected",
+           [&] { (void)circuit.bind(garbling.write(), bytes(96), {32, 32, 33}); });
+    throws(66, "fault 66 WrongSize: returned has 16 bytes, and 32 are expected",
+           [&] { (void)garbling.open(0, bytes(16)); });
+    throws(66, "fault 66 WrongSize: rows has 31 bytes, and 32 are expected",
+           [&] { (void)garbling.audit_rows(bytes(31), {0, 1}); });
+    throws(66, "fault 66 WrongSize: rows has 64 bytes, and 32 are expected",
+           [&] { (void)evaluator.feed(bytes(64)); });
+    throws(66, "fault 66 WrongSize: active has 17 bytes, and 16 are expected",
+           [] { (void)halfgates::decode(bytes(17), {1}); });
+    throws(61, "fault 61 SmallBuffer: buffer has 176 bytes, and at least 177 are expected",
+           [&] { garbling.write_into(small, sizeof small); });
+    throws(61, "fault 61 SmallBuffer: buffer has 31 bytes, and at least 32 are expected",
+           [&] { garbling.rows_into(small, 31); });
+    throws(61, "fault 61 SmallBuffer: buffer has 0 bytes, and at least 32 are expected",
+           [&] { garbling.rows_range_into(0, 1, nullptr, 0); });
+    throws(61, "fault 61 SmallBuffer: buffer has 31 bytes, and at least 32 are expected",
+           [&] { garbler.rows_into(small, 31); });
+    throws(42, "fault 42 NoSuchValue", [&] { (void)circuit.label_file(3, {}); });
+    throws(68, "fault 68 NoDigest", [] { (void)halfgates::circuit::read_without_digest(FULL_ADDER).digest(); });
+    throws(2, "fault 2 BadNumber: line 1, column 3: expected a number from 0 to 4294967295",
+           [] { (void)halfgates::circuit::read_without_digest("1 x"); });
 }
 
 void check_moves() {
@@ -238,6 +282,8 @@ void check_handles_of_nothing() {
     CHECK(!circuit && !garbling && !job && !garbler && !evaluator);
     CHECK(garbler.left() == 0 && evaluator.left() == 0);
     CHECK(circuit.numbers().wires == 0 && circuit.input_widths().empty() && circuit.digest()[0] == 0);
+    throws(64, "fault 64 NullPointer", [&] { circuit.take_digest(); });
+    throws(64, "fault 64 NullPointer", [&] { (void)garbling.audit_rows({}, {}); });
     throws(64, "fault 64 NullPointer", [&] { (void)circuit.plain({}); });
     throws(64, "fault 64 NullPointer", [&] { (void)circuit.share(); });
     throws(64, "fault 64 NullPointer", [&] { (void)garbling.write(); });
@@ -279,6 +325,7 @@ int main() {
     check_texts();
     check_bits();
     check_faults();
+    check_sizes_of_faults();
     check_moves();
     check_order();
     check_handles_of_nothing();

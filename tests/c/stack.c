@@ -16,9 +16,9 @@ enum { SIZE = 1 << 20, UNTOUCHED = 0xa5, MANY = 9, WIRES = 64, FILE_SIZE = 16 + 
 
 static uint8_t *stack, text[1 << 20], garbled[2][LARGEST], files[MANY * LARGEST], labels[2 * FILE_SIZE];
 static uint8_t seeds[MANY][32], bits[MANY * 2 * WIRES], zero[2 * WIRES * 16], one[2 * WIRES * 16];
-static uint8_t rows[LARGEST], offset[16], output_zeros[16 * WIRES];
+static uint8_t rows[LARGEST], offset[16], output_zeros[16 * WIRES], decode_bits[WIRES];
 static size_t length, sizes[2], written, label_sizes[2] = {FILE_SIZE, FILE_SIZE};
-static halfgates_circuit *circuit;
+static halfgates_circuit *circuit, *undigested;
 static halfgates_garbling *garbling, *garblings[MANY];
 static halfgates_job *jobs[MANY];
 static halfgates_garbler *garbler, *ended_garbler;
@@ -32,6 +32,7 @@ static halfgates_place place;
 static halfgates_sentence sentence;
 static halfgates_wire_labels wires[2 * WIRES];
 static halfgates_audit_report report;
+static halfgates_rows_report rows_report;
 static halfgates_labels_report labels_report;
 static uint32_t widths[2];
 static int32_t codes[MANY];
@@ -47,7 +48,11 @@ static const uint32_t WIDTH = 1;
     X(version, (halfgates_version(), 0)) \
     X(is_memory, halfgates_is_memory(62) - 1) \
     X(circuit_read, halfgates_circuit_read(text, length, MADE(circuit))) \
+    X(circuit_read_without_digest, halfgates_circuit_read_without_digest(text, length, MADE(circuit))) \
+    X(circuit_take_digest, halfgates_circuit_take_digest(undigested)) \
     X(circuit_from_gates, halfgates_circuit_from_gates(&ONE, 1, 1, NULL, 0, &WIDTH, 1, MADE(circuit), &place)) \
+    X(circuit_from_gates_without_digest, \
+      halfgates_circuit_from_gates_without_digest(&ONE, 1, 1, NULL, 0, &WIDTH, 1, MADE(circuit), &place)) \
     X(circuit_share, halfgates_circuit_share(circuit, MADE(circuit))) \
     X(circuit_order, halfgates_circuit_order(circuit, MADE(circuit))) \
     X(circuit_text, halfgates_circuit_text(circuit, room, sizeof room, &written)) \
@@ -96,6 +101,7 @@ static const uint32_t WIDTH = 1;
     X(evaluator_feed, halfgates_evaluator_feed(evaluator, rows, 320, &written)) \
     X(evaluator_output_labels, halfgates_evaluator_output_labels(ended_evaluator, room, sizeof room)) \
     X(audit, halfgates_audit(garbling, garbled[1], sizes[1], &report)) \
+    X(audit_rows, halfgates_audit_rows(garbling, rows, 32 * numbers.and_gates, decode_bits, WIRES, &rows_report)) \
     X(audit_labels, halfgates_audit_labels(garbling, labels, FILE_SIZE, room, sizeof room, &labels_report)) \
     X(circuit_free, (halfgates_circuit_free(made[0]), 0)) \
     X(garbling_free, (halfgates_garbling_free(made[0]), 0)) \
@@ -126,6 +132,10 @@ static void enter(void) {
 static void settle(const struct entry *it, int is_before) {
     if (is_before && strcmp(it->name, "circuit_free") == 0)
         CHECK_CODE(0, halfgates_circuit_read(text, length, MADE(circuit)));
+    if (is_before && strcmp(it->name, "circuit_take_digest") == 0)
+        CHECK_CODE(0, halfgates_circuit_read_without_digest(text, length, &undigested));
+    if (!is_before && strcmp(it->name, "circuit_take_digest") == 0)
+        halfgates_circuit_free(undigested);
     if (is_before && strcmp(it->name, "garbling_free") == 0)
         CHECK_CODE(0, halfgates_garble(circuit, seeds[0], MADE(garbling)));
     if (is_before && strcmp(it->name, "job_free") == 0)
@@ -192,6 +202,7 @@ static void make_all(const char *name) {
         CHECK_CODE(0, halfgates_job_bind(circuit, garbled[i % 2], sizes[i % 2], labels, sizeof labels, label_sizes, 2,
                                          &jobs[i]));
     CHECK_CODE(0, halfgates_offset(garbling, offset));
+    CHECK_CODE(0, halfgates_decode_bits(garbling, decode_bits, sizeof decode_bits));
     CHECK_CODE(0, halfgates_output_labels(garbling, 0, output_zeros, one, sizeof output_zeros));
     CHECK_CODE(0, call_garbler_begin());
     ended_garbler = made[0];

@@ -1,7 +1,7 @@
 /*
  * Eight threads, each with a handle of its own on one circuit, or with a circuit of its own; eight that use one circuit,
- * one garbling and one job at once, each with a garbler and an evaluator of its own; and a garbling and a garbler that
- * a thread hands to another.
+ * one garbling and one job at once, each with a garbler and an evaluator of its own, and with a handle of its own that
+ * takes the digest; and a garbling and a garbler that a thread hands to another.
  */
 #include "check.h"
 #include <pthread.h>
@@ -52,7 +52,7 @@ static void *work(void *at) {
 
 /* What several threads read at once, and what they are to find. */
 struct shared {
-    const halfgates_circuit *circuit;
+    const halfgates_circuit *circuit, *undigested;
     const halfgates_garbling *garbling;
     const halfgates_job *job;
     halfgates_garbling *garblings[3]; /* the same garbling three times */
@@ -92,6 +92,19 @@ static void order_once(const halfgates_circuit *circuit) {
     halfgates_circuit_free(ordered);
 }
 
+/* Takes the digest of a handle of its own. The one that other threads use stays without. */
+static void take_digest(const halfgates_circuit *undigested, const uint8_t digest[32]) {
+    uint8_t taken[32];
+    halfgates_circuit *own = NULL;
+    CHECK_CODE(HALFGATES_OK, halfgates_circuit_share(undigested, &own));
+    CHECK_CODE(HALFGATES_NO_DIGEST, halfgates_circuit_digest(own, taken));
+    CHECK_CODE(HALFGATES_OK, halfgates_circuit_take_digest(own));
+    CHECK_CODE(HALFGATES_OK, halfgates_circuit_digest(own, taken));
+    CHECK(memcmp(taken, digest, sizeof taken) == 0);
+    CHECK_CODE(HALFGATES_NO_DIGEST, halfgates_circuit_digest(undigested, taken));
+    halfgates_circuit_free(own);
+}
+
 static void *read_all(void *at) {
     const struct shared *shared = at;
     const uint8_t bits[3] = {1, 0, 1}, seed[32] = {0};
@@ -102,6 +115,7 @@ static void *read_all(void *at) {
         CHECK_CODE(HALFGATES_OK, halfgates_circuit_numbers(shared->circuit, &numbers));
         CHECK(numbers.gates == 5 && numbers.wires == 8);
         order_once(shared->circuit);
+        take_digest(shared->undigested, shared->garbled + 8);
         stream(shared, seed);
         garble_once(shared->circuit, 0, garbled);
         CHECK(memcmp(garbled, shared->garbled, sizeof garbled) == 0);
@@ -130,9 +144,12 @@ static void share_handles(const halfgates_circuit *circuit) {
     uint8_t labels[96];
     size_t written;
     pthread_t threads[THREADS];
+    halfgates_circuit *undigested = NULL;
     halfgates_garbling *garbling = NULL;
     halfgates_job *job = NULL;
     struct shared shared;
+    CHECK_CODE(HALFGATES_OK,
+               halfgates_circuit_read_without_digest((const uint8_t *)FULL_ADDER, strlen(FULL_ADDER), &undigested));
     CHECK_CODE(HALFGATES_OK, halfgates_garble(circuit, seed, &garbling));
     CHECK_CODE(HALFGATES_OK, halfgates_garbling_write(garbling, 2, shared.garbled, 177, &written));
     CHECK_CODE(HALFGATES_OK, halfgates_zero_label(garbling, 7, shared.zero));
@@ -141,12 +158,14 @@ static void share_handles(const halfgates_circuit *circuit) {
     CHECK_CODE(HALFGATES_OK, halfgates_job_bind(circuit, shared.garbled, 177, labels, 96, sizes, 3, &job));
     CHECK_CODE(HALFGATES_OK, halfgates_evaluate(job, shared.outputs, 2));
     shared.circuit = circuit;
+    shared.undigested = undigested;
     shared.garbling = shared.garblings[0] = shared.garblings[1] = shared.garblings[2] = garbling;
     shared.job = shared.jobs[0] = shared.jobs[1] = shared.jobs[2] = job;
     for (int i = 0; i < THREADS; i++)
         CHECK(pthread_create(&threads[i], NULL, read_all, &shared) == 0);
     for (int i = 0; i < THREADS; i++)
         CHECK(pthread_join(threads[i], NULL) == 0);
+    halfgates_circuit_free(undigested);
     halfgates_garbling_free(garbling);
     halfgates_job_free(job);
 }

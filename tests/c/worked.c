@@ -125,6 +125,24 @@ static void check_jobs(halfgates_circuit *circuit, struct bytes garbled, struct 
     halfgates_job_free(job);
 }
 
+/* Three garblings under one seed, of which two may be made side by side, have the file of that seed. */
+static void check_many(halfgates_circuit *circuit, const uint8_t *seed, struct bytes expected) {
+    uint8_t seeds[96];
+    size_t written;
+    halfgates_garbling *garblings[3] = {NULL};
+    struct bytes file = take(expected.size);
+    for (size_t i = 0; i < 3; i++)
+        memcpy(seeds + 32 * i, seed, 32);
+    CHECK_CODE(HALFGATES_OK, halfgates_garble_many(circuit, seeds, 3, garblings));
+    for (size_t i = 0; i < 3; i++) {
+        memset(file.at, 0xA5, file.size);
+        CHECK_CODE(HALFGATES_OK, halfgates_garbling_write(garblings[i], 2, file.at, file.size, &written));
+        CHECK(is_same(file, expected.at, expected.size));
+        halfgates_garbling_free(garblings[i]);
+    }
+    free(file.room);
+}
+
 static void check_folder(const char *folder) {
     struct bytes text = read_file(folder, "circuit"), seed = read_file(folder, "seed");
     struct bytes digest = read_file(folder, "digest"), taken = take(32);
@@ -146,6 +164,7 @@ static void check_folder(const char *folder) {
     CHECK_CODE(HALFGATES_OK, halfgates_garble(circuit, seed.at, &garbling));
     for (uint32_t version = 1; version <= 2; version++)
         check_garbled(circuit, garbling, version, garbled[version - 1]);
+    check_many(circuit, seed.at, garbled[1]);
     check_labels(circuit, seed.at, widths, numbers.input_values, bits, labels, sizes);
     for (int i = 0; i < 2; i++)
         check_jobs(circuit, garbled[i], labels, sizes, numbers.input_values, bits, outputs);
