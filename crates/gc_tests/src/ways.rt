@@ -5,7 +5,7 @@ use gc_fixtures::compare::equal;
 use gc_workers::{Way, way_of};
 use std::test::Fail;
 
-/// Several threads go together where the shares are free and half of the gates are AND, and else alone.
+/// Several threads go together where the shares are free and three gates in four are AND, and else alone.
 #[test]
 fn of_circuits(rt: HostRuntime) -> Result<(), Fail> {
     for (shape, threads, way) in [
