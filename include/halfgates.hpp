@@ -80,12 +80,12 @@ public:
 
     /* One of these buffers has a wrong size or too little room: what() says which, if the code is for that. */
     fault(std::int32_t code, std::initializer_list<sized> buffers) noexcept : fault(code) {
+        const bool is_read = code == HALFGATES_WRONG_SIZE, is_written = code == HALFGATES_SMALL_BUFFER;
         for (const sized &it : buffers)
-            if (code == HALFGATES_WRONG_SIZE ? it.given != it.expected
-                                             : code == HALFGATES_SMALL_BUFFER && it.given < it.expected) {
+            if ((is_read && it.given != it.expected) || (is_written && it.given < it.expected)) {
                 std::snprintf(what_, sizeof what_, "fault %d %s: %s has %zu bytes, and %s%zu are expected",
-                              static_cast<int>(code), name_.text, it.name, it.given,
-                              code == HALFGATES_WRONG_SIZE ? "" : "at least ", it.expected);
+                              static_cast<int>(code), name_.text, it.name, it.given, is_read ? "" : "at least ",
+                              it.expected);
                 return;
             }
     }

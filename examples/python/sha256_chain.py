@@ -89,7 +89,7 @@ def main():
     parser.add_argument("message", metavar="MESSAGE")
     words = parser.parse_args()
     message = words.message.encode()
-    with Circuit.open(words.circuit) as circuit:
+    with Circuit.open(words.circuit, digest=False) as circuit:
         if (circuit.input_widths, circuit.output_widths) != ((512, 256), (256,)):
             sys.exit("the circuit isn't the compression of SHA-256: examples/make_circuits.py sha256 writes it")
         garbler = Garbler(circuit)
