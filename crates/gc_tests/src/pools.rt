@@ -31,8 +31,8 @@ fn gate_of(task: Option<Task>) -> Option<u32> {
     Some(task?.gate)
 }
 
-/// Pushes tasks of the gates 0, 1, 2 .. until one is refused, and no more than `most`. Returns how many were pushed, and
-/// the refusal.
+/// Pushes tasks of the gates 0, 1, 2 .. until one is refused, and no more than `most`. Returns how many were pushed,
+/// and the refusal.
 fn push_some<A: Allocator>(
     pool: &TaskPool<A>,
     owner: &mut Owner<A>,
