@@ -64,15 +64,16 @@ pub fn and_chains(alloc: Global, chains: u32, length: u32) -> Result<String, Fai
     Ok(text)
 }
 
-/// The gate of a chain that reads the last wire of the chain and sets the next one: AND gates, and after them gates of
-/// each other operation in turn.
-fn mixed_gate(alloc: Global, chain: u64, place: u64, read: u64, set: u64) -> Result<String, Fail> {
+/// The gate at this place of a chain: AND gates, and after them gates of each other operation in turn. A gate reads both
+/// wires, the first, or neither.
+fn mixed_gate(alloc: Global, place: u64, wires: (u64, u64), set: u64) -> Result<String, Fail> {
+    let (first, second) = wires;
     let line = match place % 8 {
-        1 => format!(in alloc; "1 1 {read} {set} INV\n")?,
-        3 => format!(in alloc; "2 1 {read} {chain} {set} XOR\n")?,
-        5 => format!(in alloc; "1 1 {read} {set} EQW\n")?,
+        1 => format!(in alloc; "1 1 {first} {set} INV\n")?,
+        3 => format!(in alloc; "2 1 {first} {second} {set} XOR\n")?,
+        5 => format!(in alloc; "1 1 {first} {set} EQW\n")?,
         7 => format!(in alloc; "1 1 1 {set} EQ\n")?,
-        _ => format!(in alloc; "2 1 {read} {chain} {set} AND\n")?,
+        _ => format!(in alloc; "2 1 {first} {second} {set} AND\n")?,
     };
     Ok(line)
 }
@@ -86,7 +87,7 @@ pub fn mixed_chains(alloc: Global, chains: u32, length: u32) -> Result<String, F
     for chain in 0..n {
         let mut read = chain;
         for place in 0..u64::from(length) {
-            text.push_str(mixed_gate(alloc, chain, place, read, set)?.as_str())?;
+            text.push_str(mixed_gate(alloc, place, (read, chain), set)?.as_str())?;
             read = set;
             set = set.saturating_add(1);
         }

@@ -104,16 +104,14 @@ pub fn label_file(
     Ok(bytes)
 }
 
-/// The label file, read, of an input value of this width.
+/// The label file, read, of an input value.
 fn labels_of(
     alloc: Global,
     circuit: &Circuit,
     index: u32,
-    value: &str,
-    width: u32,
+    bits: &[bool],
 ) -> Result<LabelFile, Fail> {
-    let bits = read_value(alloc, value.as_bytes(), width)?;
-    Ok(read_labels(alloc, &label_file(alloc, circuit, index, &bits)?)?)
+    Ok(read_labels(alloc, &label_file(alloc, circuit, index, bits)?)?)
 }
 
 /// The label files, read, of a circuit's input values. Values beyond those of the circuit have none.
@@ -128,7 +126,8 @@ pub fn label_files(
         let Some(value) = values.get(index as usize) else {
             break;
         };
-        files.push(labels_of(alloc, circuit, index, value, *width)?)?;
+        let bits = read_value(alloc, value.as_bytes(), *width)?;
+        files.push(labels_of(alloc, circuit, index, &bits)?)?;
         index = index.saturating_add(1);
     }
     Ok(files)

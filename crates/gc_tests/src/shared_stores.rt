@@ -26,21 +26,27 @@ fn refuses_strangers<L: Ledger, A: Allocator>(
 ) -> Result<(), Fail> {
     let other = stranger(&Seed::from_bytes([1; 32]), 0);
     let beyond = stranger(&zero_seed(), 5);
-    is_refused(rt, shared, tally, other, Refused::OtherInputs(other))?;
-    is_refused(rt, shared, tally, beyond, Refused::NotClaimed(beyond))
+    equal(
+        refusal(rt, shared, tally, other),
+        Some(Refused::OtherInputs(other)),
+    )?;
+    equal(
+        refusal(rt, shared, tally, beyond),
+        Some(Refused::NotClaimed(beyond)),
+    )
 }
 
-/// What is handed in is refused, and nothing is counted or claimed.
-fn is_refused<L: Ledger, A: Allocator>(
+/// The refusal of what is handed in, where nothing is counted or claimed.
+fn refusal<L: Ledger, A: Allocator>(
     rt: &impl Wait,
     shared: &SharedStore<L, A>,
     tally: &mut Tally<L>,
     sealed: Sealed,
-    refused: Refused,
-) -> Result<(), Fail> {
+) -> Option<Refused> {
     let mut batch = Batch::new();
     let answer = shared.hand_in(rt, sealed, tally, &mut batch);
-    equal((answer, tally.count(), batch.len()), (Err(refused), 0, 0))
+    let nothing = tally.count() == 0 && batch.is_empty();
+    answer.err().filter(|_| nothing)
 }
 
 /// Gates 0 and 1 are taken, and 0 is handed in. The holder of 1, a thread, stops the store and ends. Returns the task

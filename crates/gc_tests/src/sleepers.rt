@@ -73,7 +73,8 @@ impl<L: Ledger> Fixture<L> {
         match self.shared.take(rt) {
             Some(task) => {
                 self.given.fetch_add(1, Ordering::SeqCst);
-                let _ = self.hand_in(rt, task, tally, &mut Batch::new());
+                let sealed = Sealed::make(task);
+                let _ = self.shared.hand_in(rt, sealed, tally, &mut Batch::new());
                 Given::Task
             }
             None if self.is_last.load(Ordering::SeqCst) => Given::NoneAtLast,
@@ -81,40 +82,31 @@ impl<L: Ledger> Fixture<L> {
         }
     }
 
-    /// Hands in a task. Returns whether the store is complete then; None where it refuses.
-    fn hand_in(
-        &self,
-        rt: &impl Wait,
-        task: Task,
-        tally: &mut Tally<L>,
-        batch: &mut Batch,
-    ) -> Option<bool> {
-        self.shared
-            .hand_in(rt, Sealed::make(task), tally, batch)
-            .ok()
-    }
-
     /// Hands in the first gate, which makes more gates ready than the batch holds. Returns whether each thread that
     /// slept is given a task.
     fn wakes_each(&self, rt: &impl Wait, tally: &mut Tally<L>) -> bool {
-        self.hand_in(rt, self.first, tally, &mut Batch::new()) == Some(false)
-            && reaches(&self.given, SLEEPERS as u64)
+        let first = Sealed::make(self.first);
+        let answer = self.shared.hand_in(rt, first, tally, &mut Batch::new());
+        answer == Ok(false) && reaches(&self.given, SLEEPERS as u64)
     }
 
     /// Hands in the first gate, after which the batch has all others: a thread is woken, and finds no gate that is
     /// ready. Then the others are handed in. Returns whether the last one completes the store.
     fn leaves_none(&self, rt: &impl Wait, tally: &mut Tally<L>) -> bool {
         let mut batch = Batch::new();
-        let mut answer = self.hand_in(rt, self.first, tally, &mut batch);
+        let first = Sealed::make(self.first);
+        let mut answer = self.shared.hand_in(rt, first, tally, &mut batch);
         pause();
         for _gate in 0..BATCH_SIZE {
             let Some(task) = batch.pop() else {
                 return false;
             };
             self.is_last.store(batch.is_empty(), Ordering::SeqCst);
-            answer = self.hand_in(rt, task, tally, &mut batch);
+            answer = self
+                .shared
+                .hand_in(rt, Sealed::make(task), tally, &mut batch);
         }
-        answer == Some(true)
+        answer == Ok(true)
     }
 
     /// What the thread that works does once the others sleep, by what they should be given. It stops the store if they
@@ -166,22 +158,17 @@ fn open<L: Ledger>(
     Some((Fixture::new(store, first), threads))
 }
 
-/// Three threads sleep at the store of a fan of this many readers, while another thread works there. Returns whether
-/// nothing goes wrong, and each of the three is given this.
+/// Three threads sleep at a store, while another thread works there. Returns whether nothing goes wrong, and each of
+/// the three is given this.
 fn are_given<L: Ledger + Send + Sync, R: Threads + Wait + Sync>(
     rt: &R,
-    alloc: Global,
-    ledger: Blank,
-    readers: u32,
+    fixture: &Fixture<L>,
+    threads: &mut [Participant<L>],
     given: Given,
-) -> Result<bool, Fail>
-    requires { IsForStore L.name L.parts ledger }
-{
-    let opened = open::<L>(alloc, ledger, fan(alloc, readers)?);
-    let (fixture, mut threads) = opened.ok_or("a gate is ready")?;
+) -> bool {
     thread::for_each_mut(
         rt,
-        threads.as_mut_slice(),
+        threads,
         SLEEPERS + 1,
         &|i: usize, thread: &mut Participant<L>| {
             thread.is_right = if i == 0 {
@@ -191,7 +178,7 @@ fn are_given<L: Ledger + Send + Sync, R: Threads + Wait + Sync>(
             };
         },
     );
-    Ok(threads.iter().all(|thread| thread.is_right))
+    threads.iter().all(|thread| thread.is_right)
 }
 
 /// One hand-in that makes more gates ready than a batch holds wakes one of three threads that sleep, and what that one
@@ -205,7 +192,9 @@ fn each_sleeper_is_woken(rt: HostRuntime) -> Result<(), Fail> {
         (16, Given::NoneBefore),
     ] {
         for _time in 0..10 {
-            let found = are_given::<Brand, HostRuntime>(&rt, rt.alloc(), ledger(), readers, given)?;
+            let opened = open::<Brand>(rt.alloc(), ledger(), fan(rt.alloc(), readers)?);
+            let (fixture, mut threads) = opened.ok_or("a gate is ready")?;
+            let found = are_given(&rt, &fixture, &mut threads, given);
             equal((given, found), (given, true))?;
         }
     }
