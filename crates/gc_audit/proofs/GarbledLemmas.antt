@@ -7,7 +7,7 @@ use Rattle.gc_half.specs.Hash.{hash}
 use Rattle.gc_file.specs.declared.parts.EntryPair.{EntryPair}
 use Rattle.gc_audit.specs.declared.garbled.GarbledAudit.{GarbledAudit}
 use Rattle.gc_audit.specs.declared.garbled.PartsAudit.{PartsAudit}
-use Rattle.gc_audit.specs.Garbled.{AreCountsRight, IsPartsAudit, IsPartsAuditWith, IsGarbledAuditWith, honest_audit}
+use Rattle.gc_audit.specs.Garbled.{AreCountsRight, IsRowsAudit, IsBitsAudit, IsPartsAudit, IsPartsAuditWith, IsGarbledAuditWith, honest_audit}
 use Rattle.gc_audit.proofs.DifferenceLemmas.{differ_first, none_found}
 
 -- The entry pair of an output is at its place.
@@ -142,19 +142,15 @@ module _ (c : Netlist) (seed : List ℕ) (lawful : IsLawful c) (g : GarblingPart
 
   -- so what is found of the other parts by the labels is found by the garbling.
   pub compared-audit : (file : GarbledParts) (audit : PartsAudit) → AreCountsRight c file
-      → MatchOption audit.rows (file.rows ≡ row_pairs_of c seed)
-      (IsRowDifference c file.rows (row_pairs_of c seed))
-      → MatchOption audit.bits (file.decode_bits ≡ decode_bits_of g)
-      (DifferFirstAt file.decode_bits (decode_bits_of g))
+      → IsRowsAudit c (garbling_of c seed) file.rows audit.rows
+      → IsBitsAudit g file.decode_bits audit.bits
       → (let entries = version_entries file.version (offset_of seed) g in
       MatchOption audit.entries (file.entries ≡ entries) (IsEntryDifference file.entries entries))
       → IsPartsAudit c (garbling_of c seed) seed file audit
   compared-audit file audit counts rows bits entries = record {
     counts = counts;
     rows = rows;
-    bits = subst (λ l. MatchOption audit.bits (file.decode_bits ≡ l)
-        (DifferFirstAt file.decode_bits l))
-        (ap decode_bits_of same_garbling) bits;
+    bits = subst (λ made. IsBitsAudit made file.decode_bits audit.bits) same_garbling bits;
     entries = subst (λ l.
         MatchOption audit.entries (file.entries ≡ l) (IsEntryDifference file.entries l))
         (same_entries file.version) entries;

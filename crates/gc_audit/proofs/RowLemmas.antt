@@ -1,12 +1,13 @@
 -- Row pairs in bytes, and the first that differs, from the first mismatch.
-use Rattle.gc_audit.proofs.Names.{◌≡◌, ℕ, zero, suc, ◌+◌, ◌*◌, ◌<◌, List, [], ◌∷◌, length, take, get_or, slice_get, Some, sym, ap, ◌∙◌, arith, slice_get_within, slice_get-get_or, get_or_from_slice_get, Netlist, Mismatch, IsFirstMismatch, row_at, DifferIn, IsAndGate, IsRowDifference}
+use Rattle.gc_audit.proofs.Names.{◌≡◌, ℕ, zero, suc, ◌+◌, ◌*◌, ◌<◌, ◌≤◌, List, [], ◌∷◌, length, take, get_or, slice_get, Some, sym, ap, ◌∙◌, arith, slice_get_within, slice_get-get_or, get_or_from_slice_get, Netlist, Mismatch, IsFirstMismatch, row_at, DifferIn, IsAndGate, IsRowDifference}
 use Rattle.std.proofs.Common.{drop, flat_map, All, ◌++◌}
-use Rattle.std.proofs.lemmas.List.{take_at}
+use Rattle.std.proofs.lemmas.List.{take_at, append-nil}
 use Rattle.std.proofs.Math.Seq.{drop-append-add}
 use Rattle.gc_half.specs.declared.garbling.RowPair.{RowPair}
 use Rattle.gc_file.specs.GarbledFile.{IsRowPair, row_bytes}
 use Rattle.gc_file.proofs.LabelBytesLemmas.{length-row_bytes}
 use Rattle.gc_file.proofs.ItemLemmas.{row_of, row_spelling}
+use Rattle.gc_file.proofs.PairLemmas.{length-pairs}
 use Rattle.gc_audit.specs.declared.rows.RowDifference.{RowDifference}
 use Rattle.gc_audit.proofs.DifferenceLemmas.{differ_first}
 
@@ -33,6 +34,21 @@ row_there rows i row each is within read =
     let same : there ≡ row = sym (row_spelling.back there (each i row within))
     ∙ ap row_of (sym (bytes_at rows i there at) ∙ read) ∙ row_spelling.back row is in
     at ∙ ap Some same
+
+-- The row pair that is read alone from its bytes.
+pub row_read : (rows : List RowPair) (i : ℕ) (read : List RowPair) (row : RowPair) (bytes : List ℕ)
+    → bytes ≡ flat_map row_bytes rows → All IsRowPair rows → 32 * i + 32 ≤ length bytes
+    → length read ≡ 1 → row ≡ get_or read 0 row → All IsRowPair read
+    → flat_map row_bytes read ≡ take 32 (drop (32 * i) bytes) → slice_get rows i ≡ Some row
+row_read rows i [] row bytes spelled each within one at are same = absurd (omega (arith, one))
+row_read rows i (p ∷ q ∷ more) row bytes spelled each within one at are same =
+    absurd (omega (arith, one))
+row_read rows i (p ∷ []) row bytes spelled each within one at are same =
+    let long = length-pairs row_bytes length-row_bytes rows in
+    let is : IsRowPair row = rw at (are 0 p (omega arith)) in
+    row_there rows i row each is (omega (arith, within, ap length spelled, long))
+    (ap (λ b. take 32 (drop (32 * i) b)) (sym spelled) ∙ sym same ∙ append-nil (row_bytes p)
+    ∙ ap row_bytes (sym at))
 
 module _ (c : Netlist) (filed garbled : List RowPair) (m : Mismatch)
     (is : IsFirstMismatch filed garbled m) where

@@ -1,4 +1,5 @@
 use Rattle.gc_audit.proofs.Names.{◌≡◌, ◌<◌, Option, None, Some, IfSome, MatchOption, sym, subst, arith, slice_get_within, and_count, Mismatch, row_pairs_of, decode_bits_of, IsComparison, length-row_pairs_of, DifferFirstAt}
+use Rattle.gc_audit.specs.Garbled.{IsBitsAudit}
 use Rattle.gc_audit.proofs.GarbledLemmas.{compared-audit}
 use Rattle.gc_audit.proofs.garbled.audit_compared.Goals as goal
 
@@ -23,6 +24,6 @@ returns g c file counts version bits entries compared =
     compared-audit a.of.now.circuit.now a.of.now.seed.now c.law_lawful.ensures a.of.now.labels.now c.requires.labels file
     _ counts
     (c.row_difference.ensures file.rows (row_pairs_of a.of.now.circuit.now a.of.now.seed.now) compared)
-    (subst (λ l. MatchOption c.audit_bits.result (l ≡ decode_bits_of a.of.now.labels.now)
-    (DifferFirstAt l (decode_bits_of a.of.now.labels.now))) (sym bits) c.audit_bits.ensures)
+    (subst (λ l. IsBitsAudit a.of.now.labels.now l c.audit_bits.result) (sym bits)
+    c.audit_bits.ensures)
     (rw (version, entries, ← c.offset.ensures) c.audit_entries.ensures)
