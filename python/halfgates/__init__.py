@@ -15,6 +15,8 @@ A garbling in pieces leaves while it is made, and an evaluator takes the pieces 
         for rows in garbler.pieces():
             connection.sendall(rows)
 
+Only garbled files need a circuit's digest: read with `digest=False`, which takes less time, where there are none.
+
 Texts and files are objects with the buffer protocol. They are read in place, but several label files are joined first.
 Bits are bytes 0 and 1 in wire order: `to_bits` makes them of a number, and `from_bits` a number of them. A call that
 fails raises a `Fault`, with its `code`, which `Code` has, its `name` and its `meaning`. `explain` and `locate` say what

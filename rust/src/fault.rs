@@ -163,7 +163,8 @@ impl fmt::Debug for Fault {
 
 impl Error for Fault {}
 
-/// Why a call that takes slices failed: the fault, and which slice it is about.
+/// Why a call that takes slices failed: the fault, and which slice it is about. It converts to
+/// [`Fault`], which has no slice.
 ///
 /// ```
 /// use halfgates::Circuit;

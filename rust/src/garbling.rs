@@ -316,7 +316,8 @@ impl Garbling {
     /// # Errors
     ///
     /// [`Fault::BAD_ARGUMENT`] where the garbling's first AND number isn't 0;
-    /// [`Fault::NO_DIGEST`] where its circuit had none; codes 30 to 36, the first fault of the file.
+    /// [`Fault::NO_DIGEST`] where its circuit had none; codes 30 to 36, the first fault of the
+    /// file.
     #[doc(alias = "halfgates_audit")]
     pub fn audit(&self, garbled: &[u8]) -> Result<GarbledReport, Fault> {
         let mut report = sys::halfgates_audit_report::default();

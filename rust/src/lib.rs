@@ -32,12 +32,13 @@
 //! # Labels, for a protocol of one's own
 //!
 //! [`Garbling::input_labels`] are what an oblivious transfer offers. A garbling can also go on from
-//! labels that another one left, and rows can be evaluated without files:
+//! labels that another one left, and rows can be evaluated without files. Then the circuit needs no
+//! digest, which takes longer than reading:
 //!
 //! ```
 //! use halfgates::{decode, Circuit};
 //!
-//! let and = Circuit::read("1 3\n2 1 1\n1 1\n2 1 0 1 2 AND")?;
+//! let and = Circuit::read_without_digest("1 3\n2 1 1\n1 1\n2 1 0 1 2 AND")?;
 //! let first = and.garble(&[0; 32])?;
 //!
 //! // A second AND gate, of the first one's output and a wire that both have.

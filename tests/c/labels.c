@@ -87,7 +87,7 @@ static void garble_from(halfgates_circuit *circuit) {
     CHECK(made == NULL);
 }
 
-/* Only a first number of 0 has files. */
+/* Only a first number of 0 has garbled files. */
 static void files(halfgates_circuit *circuit, halfgates_garbling *garbling) {
     const uint8_t zeros[48] = {5};
     uint8_t garbled[177], labels[32];
@@ -108,7 +108,8 @@ static void files(halfgates_circuit *circuit, halfgates_garbling *garbling) {
         CHECK_CODE(BAD, halfgates_write_many(list, 9, 2, NULL, 0));
     }
     CHECK_CODE(BAD, halfgates_audit(later, garbled, sizeof garbled, &report));
-    CHECK_CODE(BAD, halfgates_audit_labels(later, labels, sizeof labels, room, 1, &labels_report));
+    CHECK_CODE(HALFGATES_OK, halfgates_audit_labels(later, labels, sizeof labels, room, 1, &labels_report));
+    CHECK(labels_report.verdict == HALFGATES_WRONG_LABEL && labels_report.wire == 0);
     check_behind(0);
     CHECK(written == 7);
     halfgates_garbling_free(later);
