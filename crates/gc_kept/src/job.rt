@@ -13,7 +13,7 @@ use crate::label_files::read_label_files;
 use crate::room::has_room;
 use gc_file::read_garbled;
 use gc_file::sizes::LABEL;
-use gc_job::{AsJob, DetachedJob, EvalFault, Job, JobRef};
+use gc_job::{AsJob, DetachedJob, EvalFault, Job, JobFiles, JobRef};
 use std::alloc::Global;
 use std::marker::Model;
 
@@ -48,8 +48,12 @@ impl KeptCircuit {
         ensures fault { IfErr result (HasKeptJobFault self.now garbled.now labels.now lengths.now) }
     {
         let garbled = read_garbled(alloc, garbled)?;
-        let files = read_label_files(alloc, labels, lengths)?;
-        let job = Job::bind_by_digest(alloc, self.circuit(), self.digest(), garbled, &files)?;
+        let labels = read_label_files(alloc, labels, lengths)?;
+        let files = JobFiles {
+            garbled,
+            labels: &labels,
+        };
+        let job = Job::bind_by_digest(alloc, self.circuit(), self.digest(), files)?;
         Ok(KeptJob {
             job: job.detach(),
             circuit: self.again()?,
