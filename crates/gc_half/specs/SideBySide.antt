@@ -7,7 +7,17 @@ use Rattle.gc_half.specs.Garbling.{zero_of}
 use Rattle.gc_half.specs.Canonical.{with_row_pair}
 use Rattle.gc_half.specs.declared.garbling.RowPair.{RowPair}
 use Rattle.gc_half.specs.Evaluation.{active_of, row_at}
+use Rattle.gc_half.specs.declared.four.Four.{Four}
 use Rattle.gc_netlist.specs.Circuit.{EachRead, is_and}
+
+-- P holds of each of four,
+abbrev pub OfEach : {T : Type 0} → (T → Type 0) → Four T → Type 0
+OfEach P four = P four.a × P four.b × P four.c × P four.d
+
+-- and R of each of four and the one in the same place of others.
+abbrev pub OfBoth : {S T : Type 0} → (S → T → Type 0) → Four S → Four T → Type 0
+OfBoth R four others =
+    R four.a others.a × R four.b others.b × R four.c others.c × R four.d others.d
 
 -- One gate more is garbled, with the offset r: its zero label is put where it belongs, in a table of at most `wires`
 -- labels, and its row pair, if it has one, is added.

@@ -75,17 +75,17 @@ impl<A: Allocator> ActiveTable<A> {
             → NoneSets w self.new.waiting }
     {
         self.make_read(gate.operation);
-        let (first, second) = self.read(gate.operation);
+        let read = self.read(gate.operation);
         if gate.operation.is_and() {
             let step = AndStep {
                 k,
                 rows: rows[k as usize],
-                a: first,
-                b: second,
+                a: read.0,
+                b: read.1,
             };
             self.join(step, gate.set);
         } else {
-            let label = evaluate_gate(k, rows, gate.operation, first, second);
+            let label = evaluate_gate(k, rows, gate.operation, read);
             self.put(gate.set, label);
         }
     }

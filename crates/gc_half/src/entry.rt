@@ -1,12 +1,12 @@
 //! Entries, by which an output label is recognised.
 
-ghost use Rattle.std.specs.Prelude.{◌≡◌, ◌<◌, ◌≤◌, ◌+◌, ◌∷◌, [], true, false, map};
+ghost use Rattle.std.specs.Prelude.{◌≡◌, ◌<◌, ◌≤◌, ◌+◌, ◌-◌, ◌∷◌, [], true, false, length, map, slice_index};
 ghost use Rattle.std.specs.List.{range_with_len};
 ghost use Rattle.gc_netlist.specs.Circuit.{output_wires};
 ghost use Rattle.gc_label.specs.Label.{colour};
 ghost use Rattle.gc_half.specs.Garbling.{FitsCircuit};
 ghost use Rattle.gc_half.specs.Hash.{hash};
-ghost use Rattle.gc_half.specs.Entry.{label_of_colour, entry_of, entries_of};
+ghost use Rattle.gc_half.specs.Entry.{label_of_colour, entry_of, entries_of, output_tweak};
 
 use crate::garbling::Garbling;
 use crate::hash::{tweak_hash, tweak_hash_eight};
@@ -28,8 +28,8 @@ pub fn output_entry<A: Allocator, B: Allocator>(
     requires output { i < output_wires circuit.now }
     ensures { result ≡ entry_of offset garbling.now i s }
 {
-    let (label, tweak) = hashed(circuit, garbling, offset, i, s);
-    tweak_hash(label, tweak)
+    let (zero_label, tweak) = of_output(circuit, garbling, i);
+    tweak_hash(label_of_colour(offset, zero_label, s), tweak)
 }
 
 /// The entries 0 and 1 of four outputs, from output `first` on, each as [`output_entry`] gives it. They are hashed at
@@ -75,32 +75,34 @@ fn hashed_of_two<A: Allocator, B: Allocator>(
         ∷ entry_of offset garbling.now (i + 1) true ∷ [] }
 {
     circuit.law_lawful();
+    let (one, one_tweak) = of_output(circuit, garbling, i);
+    let (other, other_tweak) = of_output(circuit, garbling, i + 1);
     [
-        hashed(circuit, garbling, offset, i, false),
-        hashed(circuit, garbling, offset, i, true),
-        hashed(circuit, garbling, offset, i + 1, false),
-        hashed(circuit, garbling, offset, i + 1, true),
+        (label_of_colour(offset, one, false), one_tweak),
+        (label_of_colour(offset, one, true), one_tweak),
+        (label_of_colour(offset, other, false), other_tweak),
+        (label_of_colour(offset, other, true), other_tweak),
     ]
 }
 
-/// What entry `s` of output i hashes: a label, and the tweak of the output.
+/// The zero label of output i, and its tweak.
 #[tactic(auto, using(crate::proofs::EntryLemmas::entries))]
 #[inline]
-fn hashed<A: Allocator, B: Allocator>(
+fn of_output<A: Allocator, B: Allocator>(
     circuit: &Circuit<A>,
     garbling: &Garbling<B>,
-    offset: Offset,
     i: u32,
-    s: bool,
 ) -> (Label, u64)
     requires fits { FitsCircuit circuit.now garbling.now }
     requires output { i < output_wires circuit.now }
-    ensures { hash result.0 result.1 ≡ entry_of offset garbling.now i s }
+    ensures zero_label { result.0 ≡ slice_index garbling.now.zero_labels
+        (length garbling.now.zero_labels - garbling.now.outputs + i) }
+    ensures tweak { result.1 ≡ output_tweak (length garbling.now.rows) i }
 {
     let first = circuit.wires() - circuit.output_wires();
     let zero_label = garbling.zero_label(first + i);
     let tweak = 2 * u64::from(circuit.and_count()) + u64::from(i);
-    (label_of_colour(offset, zero_label, s), tweak)
+    (zero_label, tweak)
 }
 
 /// That one of a wire's two labels whose colour is `s`.

@@ -8,14 +8,23 @@ ghost use Rattle.gc_half.specs.Evaluation.{AreActiveFrom};
 ghost use Rattle.gc_half.specs.Joined.{AreOutputLabels};
 ghost use Rattle.gc_half.specs.Pieces.{EvaluatesOn, CanEvaluate, EndsPiece};
 
-use crate::active_labels::input_active_labels;
 use crate::active_table::ActiveTable;
 use crate::first::FirstAnd;
 use crate::garbling::RowPair;
+use crate::labels::padded_labels;
 use crate::numbers::left_after;
 use gc_circuit::{Circuit, Memory};
 use gc_label::Label;
 use std::alloc::Allocator;
+
+/// What an evaluation begins with.
+#[derive(Clone, Copy)]
+pub struct Evaluation<'r> {
+    /// The row pair of each AND gate.
+    pub rows: &'r [RowPair],
+    /// The active labels of the input wires.
+    pub inputs: &'r [Label],
+}
 
 /// The active labels of all wires, evaluated from row pairs and active labels of the input wires, gate after gate in
 /// file order: 16 zero bytes for a wire that is not set. AND gates are numbered from `first` on. It allocates once, for
@@ -23,17 +32,17 @@ use std::alloc::Allocator;
 pub fn evaluate_from<A: Allocator + Copy, C: Allocator>(
     alloc: A,
     circuit: &Circuit<C>,
-    rows: &[RowPair],
     first: FirstAnd,
-    inputs: &[Label],
+    given: Evaluation<'_>,
 ) -> Result<Vec<Label, A>, Memory>
-    requires rows { length rows.now ≡ and_count circuit.now }
-    requires inputs { length inputs.now ≡ input_wires circuit.now }
-    ensures { IfOk result (λ v. AreActiveFrom first circuit.now rows.now inputs.now v.items) }
+    requires rows { length given.rows.now ≡ and_count circuit.now }
+    requires inputs { length given.inputs.now ≡ input_wires circuit.now }
+    ensures { IfOk result (λ v. AreActiveFrom first circuit.now
+        given.entry.rows.now given.entry.inputs.now v.items) }
 {
     circuit.law_lawful();
-    let labels = input_active_labels(alloc, circuit.wires(), inputs)?;
-    let (active, _) = evaluate_piece(circuit, ActiveTable::new(first, labels), 0, rows);
+    let labels = padded_labels(alloc, circuit.wires(), given.inputs)?;
+    let (active, _) = evaluate_piece(circuit, ActiveTable::new(first, labels), 0, given.rows);
     Ok(active.into_labels())
 }
 
@@ -44,16 +53,16 @@ pub fn evaluate_from<A: Allocator + Copy, C: Allocator>(
 pub fn evaluate_labels<A: Allocator + Copy, C: Allocator>(
     alloc: A,
     circuit: &Circuit<C>,
-    rows: &[RowPair],
     first: FirstAnd,
-    inputs: &[Label],
+    given: Evaluation<'_>,
 ) -> Result<Vec<Label, A>, Memory>
-    requires rows { length rows.now ≡ and_count circuit.now }
-    requires inputs { length inputs.now ≡ input_wires circuit.now }
-    ensures { IfOk result (λ v. AreOutputLabels first circuit.now rows.now inputs.now v.items) }
+    requires rows { length given.rows.now ≡ and_count circuit.now }
+    requires inputs { length given.inputs.now ≡ input_wires circuit.now }
+    ensures { IfOk result (λ v. AreOutputLabels first circuit.now
+        given.entry.rows.now given.entry.inputs.now v.items) }
 {
     circuit.law_lawful();
-    let active = evaluate_from(alloc, circuit, rows, first, inputs)?;
+    let active = evaluate_from(alloc, circuit, first, given)?;
     Ok(Vec::from_slice(alloc, output_labels(circuit, &active))?)
 }
 

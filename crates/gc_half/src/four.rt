@@ -6,12 +6,13 @@ ghost use Rattle.gc_netlist.specs.Circuit.{EachRead, and_count, input_wires, is_
 ghost use Rattle.gc_half.specs.Hash.{hash, numbered_from};
 ghost use Rattle.gc_half.specs.OneGate.{first_read, second_read};
 ghost use Rattle.gc_half.specs.Evaluation.{AreActiveFrom, row_at};
-ghost use Rattle.gc_half.specs.SideBySide.{CanStep, IsStep};
+ghost use Rattle.gc_half.specs.SideBySide.{CanStep, IsStep, OfEach, OfBoth};
 
-use crate::active_labels::input_active_labels;
+use crate::evaluate::Evaluation;
 use crate::first::FirstAnd;
 use crate::garbling::RowPair;
 use crate::half_gate::{AndStep, eval_four_ands_from};
+use crate::labels::padded_labels;
 use crate::one_gate::labels_read;
 use gc_circuit::{Circuit, Gate, Memory, Operation};
 use gc_label::Label;
@@ -28,15 +29,6 @@ pub struct Four<T> {
     pub c: T,
     /// and of the fourth.
     pub d: T,
-}
-
-/// What an evaluation begins with.
-#[derive(Clone, Copy)]
-pub struct Evaluation<'r> {
-    /// The row pair of each AND gate.
-    pub rows: &'r [RowPair],
-    /// The active labels of the input wires.
-    pub inputs: &'r [Label],
 }
 
 /// The active labels of all wires in four evaluations of one circuit, made side by side on one thread ("Two Halves Make
@@ -67,71 +59,57 @@ pub fn evaluate_four_from<A: Allocator + Copy, C: Allocator>(
         given.entry.d.rows.now given.entry.d.inputs.now all.d.items) }
 {
     circuit.law_lawful();
-    let mut one = Lane::new(alloc, circuit, given.a)?;
-    let mut two = Lane::new(alloc, circuit, given.b)?;
-    let mut three = Lane::new(alloc, circuit, given.c)?;
-    let mut four = Lane::new(alloc, circuit, given.d)?;
+    let mut lanes = Four {
+        a: Lane::new(alloc, circuit, given.a)?,
+        b: Lane::new(alloc, circuit, given.b)?,
+        c: Lane::new(alloc, circuit, given.c)?,
+        d: Lane::new(alloc, circuit, given.d)?,
+    };
     let mut k = 0;
     for i in 0..circuit.gates() {
         let gate = circuit.gate(i);
-        step(first, k, gate, &mut one, &mut two, &mut three, &mut four);
+        step(first, k, gate, &mut lanes);
         if gate.operation.is_and() {
             k += 1;
         }
     }
+    let Four { a, b, c, d } = lanes;
     Ok(Four {
-        a: one.into_labels(),
-        b: two.into_labels(),
-        c: three.into_labels(),
-        d: four.into_labels(),
+        a: a.into_labels(),
+        b: b.into_labels(),
+        c: c.into_labels(),
+        d: d.into_labels(),
     })
 }
 
 /// Evaluates one more gate in four evaluations. An AND gate is the k-th, counted from 0. The caller ensures that there
 /// are the wires and the row pairs.
 #[inline(always)]
-fn step<A: Allocator>(
-    first: FirstAnd,
-    k: u32,
-    gate: Gate,
-    a: &mut Lane<'_, A>,
-    b: &mut Lane<'_, A>,
-    c: &mut Lane<'_, A>,
-    d: &mut Lane<'_, A>,
-)
-    requires a { CanStep k gate a.old.rows.now a.old.labels.items }
-    requires b { CanStep k gate b.old.rows.now b.old.labels.items }
-    requires c { CanStep k gate c.old.rows.now c.old.labels.items }
-    requires d { CanStep k gate d.old.rows.now d.old.labels.items }
-    ensures a { IsStep (numbered_from first hash) k gate
-        a.old.rows.now a.old.labels.items a.new.rows.now a.new.labels.items }
-    ensures b { IsStep (numbered_from first hash) k gate
-        b.old.rows.now b.old.labels.items b.new.rows.now b.new.labels.items }
-    ensures c { IsStep (numbered_from first hash) k gate
-        c.old.rows.now c.old.labels.items c.new.rows.now c.new.labels.items }
-    ensures d { IsStep (numbered_from first hash) k gate
-        d.old.rows.now d.old.labels.items d.new.rows.now d.new.labels.items }
+fn step<A: Allocator>(first: FirstAnd, k: u32, gate: Gate, lanes: &mut Four<Lane<'_, A>>)
+    requires { OfEach (λ lane. CanStep k gate lane.rows.now lane.labels.items) lanes.old }
+    ensures { OfBoth (λ old new. IsStep (numbered_from first hash) k gate
+        old.rows.now old.labels.items new.rows.now new.labels.items) lanes.old lanes.new }
 {
     if let Operation::And(_, _) = gate.operation {
         let [w, x, y, z] = eval_four_ands_from(
             first,
             [
-                a.and_step(k, gate.operation),
-                b.and_step(k, gate.operation),
-                c.and_step(k, gate.operation),
-                d.and_step(k, gate.operation),
+                lanes.a.and_step(k, gate.operation),
+                lanes.b.and_step(k, gate.operation),
+                lanes.c.and_step(k, gate.operation),
+                lanes.d.and_step(k, gate.operation),
             ],
         );
-        a.set(gate.set, w);
-        b.set(gate.set, x);
-        c.set(gate.set, y);
-        d.set(gate.set, z);
+        lanes.a.set(gate.set, w);
+        lanes.b.set(gate.set, x);
+        lanes.c.set(gate.set, y);
+        lanes.d.set(gate.set, z);
         return;
     }
-    a.free(first, k, gate);
-    b.free(first, k, gate);
-    c.free(first, k, gate);
-    d.free(first, k, gate);
+    lanes.a.free(first, k, gate);
+    lanes.b.free(first, k, gate);
+    lanes.c.free(first, k, gate);
+    lanes.d.free(first, k, gate);
 }
 
 /// One evaluation so far: its row pairs, and the active label of each wire.
@@ -156,7 +134,7 @@ impl<'r, A: Allocator> Lane<'r, A> {
             ≡ map (slice_index given.entry.inputs.now) (range_with_len 0 circuit.now.wires)) }
     {
         circuit.law_lawful();
-        let labels = input_active_labels(alloc, circuit.wires(), given.inputs)?;
+        let labels = padded_labels(alloc, circuit.wires(), given.inputs)?;
         Ok(Lane {
             rows: given.rows,
             labels,

@@ -9,12 +9,23 @@ ghost use Rattle.gc_half.specs.Waiting.{rows_made};
 
 use crate::first::FirstAnd;
 use crate::garbling::{Garbling, NO_ROWS, RowPair};
+use crate::labels::{input_zero_labels, padded_labels};
 use crate::numbers::left_after;
-use crate::zero_labels::{input_zero_labels, padded_labels};
 use crate::zero_table::ZeroTable;
 use gc_circuit::{Circuit, Memory};
 use gc_label::{Label, Offset, Seed, offset};
 use std::alloc::Allocator;
+
+/// What a garbling starts from, other than a seed.
+#[derive(Clone, Copy)]
+pub struct Start<'l> {
+    /// The offset.
+    pub offset: Offset,
+    /// The zero labels of the input wires.
+    pub zero_labels: &'l [Label],
+    /// The number of the first AND gate.
+    pub first: FirstAnd,
+}
 
 /// Garbles a circuit from an offset, a zero label for each input wire, and the number of the first AND gate, gate after
 /// gate in file order ("Two Halves Make a Whole", the procedure Gb). It allocates once for the labels and once for the
@@ -22,17 +33,15 @@ use std::alloc::Allocator;
 pub fn garble_from<A: Allocator + Copy, C: Allocator>(
     alloc: A,
     circuit: &Circuit<C>,
-    offset: Offset,
-    zero_labels: &[Label],
-    first: FirstAnd,
+    start: Start<'_>,
 ) -> Result<Garbling<A>, Memory>
-    requires { length zero_labels.now ≡ input_wires circuit.now }
-    ensures { IfOk result (λ g.
-        IsGarbledFrom offset (slice_index zero_labels.now) first circuit.now g) }
+    requires { length start.zero_labels.now ≡ input_wires circuit.now }
+    ensures { IfOk result (λ g. IsGarbledFrom start.entry.offset
+        (slice_index start.entry.zero_labels.now) start.entry.first circuit.now g) }
 {
     circuit.law_lawful();
-    let labels = padded_labels(alloc, circuit.wires(), zero_labels)?;
-    garble_over(circuit, offset, first, labels)
+    let labels = padded_labels(alloc, circuit.wires(), start.zero_labels)?;
+    garble_over(circuit, start.offset, start.first, labels)
 }
 
 /// The garbling of a circuit under a seed, gate after gate in file order. It allocates for the labels and for the rows,

@@ -21,7 +21,6 @@
 //! the pieces of a circuit are together the whole.
 #![tactic(auto)]
 
-mod active_labels;
 mod active_table;
 mod bit_label;
 mod compare;
@@ -33,6 +32,7 @@ mod garble;
 mod garbling;
 mod half_gate;
 mod hash;
+mod labels;
 mod laws;
 mod numbers;
 mod one_gate;
@@ -41,22 +41,21 @@ mod streaming_garbler;
 mod table;
 mod two;
 mod waiting;
-mod zero_labels;
 mod zero_table;
 
-pub use active_labels::input_active_labels;
 pub use bit_label::encode;
 pub use compare::garble_and_compare;
 pub use entry::{four_output_entries, output_entry};
-pub use evaluate::{evaluate_from, evaluate_labels, output_labels};
+pub use evaluate::{Evaluation, evaluate_from, evaluate_labels, output_labels};
 pub use first::FirstAnd;
-pub use four::{Evaluation, Four, evaluate_four_from};
-pub use garble::{garble_from, garble_one_thread};
+pub use four::{Four, evaluate_four_from};
+pub use garble::{Start, garble_from, garble_one_thread};
 pub use garbling::{GarbledAnd, Garbling, Mismatch, RowPair};
 pub use half_gate::{
     AndGate, AndStep, eval_and, eval_four_ands, eval_two_ands, garble_and, garble_two_ands,
 };
 pub use hash::{tweak_hash, tweak_hash_series};
+pub use labels::{input_zero_labels, padded_labels};
 pub use laws::{law_garblings, law_half_gates, law_joined, law_pieces};
 pub use numbers::and_numbers;
 pub use one_gate::{evaluate_gate, garble_gate, labels_read};
@@ -65,4 +64,3 @@ pub use streaming_garbler::StreamingGarbler;
 pub use table::Table;
 pub use two::garble_two;
 pub use waiting::{WaitingGate, WaitingGates};
-pub use zero_labels::input_zero_labels;

@@ -36,12 +36,12 @@ pub fn garble_gate(
     k: u32,
     offset: Offset,
     operation: Operation,
-    first: Label,
-    second: Label,
+    read: (Label, Label),
 ) -> (Label, Option<RowPair>)
-    ensures zero_label { result.0 ≡ gate_zero hash offset k operation first second }
-    ensures rows { result.1 ≡ gate_rows hash offset k operation first second }
+    ensures zero_label { result.0 ≡ gate_zero hash offset k operation read.0 read.1 }
+    ensures rows { result.1 ≡ gate_rows hash offset k operation read.0 read.1 }
 {
+    let (first, second) = read;
     match operation {
         Operation::Xor(_, _) => (first.xor(second), None),
         Operation::And(_, _) => {
@@ -58,16 +58,11 @@ pub fn garble_gate(
 /// that it sets. An AND gate is the k-th, counted from 0, and the caller ensures that the rows have a pair for it ("Two
 /// Halves Make a Whole", the procedure Ev).
 #[inline]
-pub fn evaluate_gate(
-    k: u32,
-    rows: &[RowPair],
-    operation: Operation,
-    first: Label,
-    second: Label,
-) -> Label
+pub fn evaluate_gate(k: u32, rows: &[RowPair], operation: Operation, read: (Label, Label)) -> Label
     requires { IsTrue (is_and operation) → k < length rows.now }
-    ensures { result ≡ gate_active hash k (row_at rows.now k) operation first second }
+    ensures { result ≡ gate_active hash k (row_at rows.now k) operation read.0 read.1 }
 {
+    let (first, second) = read;
     match operation {
         Operation::Xor(_, _) => first.xor(second),
         Operation::And(_, _) => {

@@ -7,11 +7,11 @@ ghost use Rattle.gc_half.specs.Pieces.{IsBegunEvaluator};
 ghost use Rattle.gc_half.specs.Streaming.{IsEvaluatedSoFar, IsEvaluatorOf, EvaluatesPiece};
 ghost use Rattle.gc_half.specs.declared.garbling.RowPair.{RowPair};
 
-use crate::active_labels::input_active_labels;
 use crate::active_table::ActiveTable;
 use crate::evaluate::{evaluate_piece, output_labels};
 use crate::first::FirstAnd;
 use crate::garbling::RowPair;
+use crate::labels::padded_labels;
 use gc_circuit::{Circuit, Memory};
 use gc_label::Label;
 use std::alloc::{Allocator, Global};
@@ -59,7 +59,7 @@ impl<A: Allocator + Copy> StreamingEvaluator<A> {
         ensures first { IfOk result (λ e. e.first ≡ first) }
     {
         circuit.law_lawful();
-        let labels = input_active_labels(alloc, circuit.wires(), inputs)?;
+        let labels = padded_labels(alloc, circuit.wires(), inputs)?;
         let mut evaluator = StreamingEvaluator {
             first,
             labels,

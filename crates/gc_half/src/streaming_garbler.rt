@@ -11,9 +11,9 @@ ghost use Rattle.gc_half.specs.declared.garbling.RowPair.{RowPair};
 
 use crate::evaluate::output_labels;
 use crate::first::FirstAnd;
-use crate::garble::garble_piece;
+use crate::garble::{Start, garble_piece};
 use crate::garbling::RowPair;
-use crate::zero_labels::{input_zero_labels, padded_labels};
+use crate::labels::{input_zero_labels, padded_labels};
 use crate::zero_table::ZeroTable;
 use gc_circuit::{Circuit, Memory};
 use gc_label::{Label, Offset, Seed, offset};
@@ -49,27 +49,26 @@ impl<A: Allocator> Model for StreamingGarbler<A> {
 impl<A: Allocator + Copy> StreamingGarbler<A> {
     /// Begins to garble a circuit from an offset, a zero label for each input wire, and the number of the first AND
     /// gate, as [`garble_from`](crate::garble_from) does. It garbles the gates before the first AND gate. It allocates
-    /// once, for the labels. The caller ensures that there are as many zero labels as input wires, and that `first` is
-    /// one for this circuit's AND gates, as [`FirstAnd::new`] returns it.
+    /// once, for the labels. The caller ensures that there are as many zero labels as input wires, and that the number
+    /// is one for this circuit's AND gates, as [`FirstAnd::new`] returns it.
     pub fn begin<C: Allocator>(
         alloc: A,
         circuit: &Circuit<C>,
-        offset: Offset,
-        zero_labels: &[Label],
-        first: FirstAnd,
+        start: Start<'_>,
     ) -> Result<StreamingGarbler<A>, Memory>
-        requires inputs { length zero_labels.now ≡ input_wires circuit.now }
-        requires numbers { first + and_count circuit.now ≤ 2 ^ 62 }
+        requires inputs { length start.zero_labels.now ≡ input_wires circuit.now }
+        requires numbers { start.first + and_count circuit.now ≤ 2 ^ 62 }
         ensures begun { IfOk result (IsGarblerOf circuit.now) }
-        ensures so_far { IfOk result (IsGarbledSoFar circuit.now zero_labels.now []) }
-        ensures offset { IfOk result (λ g. g.offset ≡ offset) }
-        ensures first { IfOk result (λ g. g.first ≡ first) }
+        ensures so_far { IfOk result
+            (IsGarbledSoFar circuit.now start.entry.zero_labels.now []) }
+        ensures offset { IfOk result (λ g. g.offset ≡ start.entry.offset) }
+        ensures first { IfOk result (λ g. g.first ≡ start.entry.first) }
     {
         circuit.law_lawful();
-        let labels = padded_labels(alloc, circuit.wires(), zero_labels)?;
+        let labels = padded_labels(alloc, circuit.wires(), start.zero_labels)?;
         let mut garbler = StreamingGarbler {
-            offset,
-            first,
+            offset: start.offset,
+            first: start.first,
             labels,
             gates: 0,
             made: 0,

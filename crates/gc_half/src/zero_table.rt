@@ -102,12 +102,12 @@ impl<A: Allocator> ZeroTable<A> {
             → NoneSets w self.new.waiting }
     {
         self.make_read(rows, gate.operation);
-        let (first, second) = self.read(gate.operation);
+        let read = self.read(gate.operation);
         if let Operation::And(_, _) = gate.operation {
-            self.pair(rows, first, second, gate.set);
+            self.pair(rows, read, gate.set);
             return;
         }
-        let (label, _) = garble_gate(0, self.offset, gate.operation, first, second);
+        let (label, _) = garble_gate(0, self.offset, gate.operation, read);
         self.put(gate.set, label);
     }
 
@@ -168,7 +168,7 @@ impl<A: Allocator> ZeroTable<A> {
 
     /// Garbles an AND gate, which reads these labels, together with the one that waits, or has it wait.
     #[inline(never)]
-    fn pair(&mut self, rows: &mut [RowPair], a: Label, b: Label, set: u32)
+    fn pair(&mut self, rows: &mut [RowPair], read: (Label, Label), set: u32)
         requires place { set < length self.old.labels }
         requires room { self.old.made + length self.old.waiting < length rows.old }
         requires number { self.old.made + length self.old.waiting < 2 ^ 31 }
@@ -176,15 +176,16 @@ impl<A: Allocator> ZeroTable<A> {
         ensures numbered { self.new.first ≡ self.old.first }
         ensures labels { self.new.labels ≡ slice_set self.old.labels set
             (and_zero (numbered_from self.old.first hash)
-            (self.old.made + length self.old.waiting) self.old.offset a b) }
+            (self.old.made + length self.old.waiting) self.old.offset read.0 read.1) }
         ensures rows { rows_made self.new rows.new ≡ rows_made self.old rows.old
             ++ row_pair (numbered_from self.old.first hash) self.old.offset
-            (self.old.made + length self.old.waiting) a b ∷ [] }
+            (self.old.made + length self.old.waiting) read.0 read.1 ∷ [] }
         ensures rest { KeepsFrom (self.new.made + length self.new.waiting) rows.old rows.new }
         ensures counted { self.new.made + length self.new.waiting
             ≡ self.old.made + length self.old.waiting + 1 }
         ensures waiting { (w : ℕ) → w ≢ set → NoneSets w self.new.waiting }
     {
+        let (a, b) = read;
         let offset = self.offset;
         let k = self.made;
         let Some(waits) = self.waiting else {

@@ -49,7 +49,7 @@ pub fn evaluate_four<A: Allocator, B: Allocator + Copy, C: Allocator>(
 
 impl<'j, A: Allocator, C: Allocator> JobRef<'j, A, C> {
     /// What evaluating the job begins with.
-    fn evaluation(&self) -> Evaluation<'j>
+    pub(crate) fn evaluation(&self) -> Evaluation<'j>
         ensures rows { result.rows.now ≡ self.now.rows }
         ensures inputs { result.inputs.now ≡ self.now.inputs }
     {

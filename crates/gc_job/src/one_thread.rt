@@ -52,13 +52,7 @@ impl<'j, A: Allocator, C: Allocator> JobRef<'j, A, C> {
         ensures { IfOk result (λ labels.
             AreOutputLabels 0 self.now.circuit self.now.rows self.now.inputs labels.items) }
     {
-        evaluate_labels(
-            alloc,
-            self.circuit(),
-            self.rows(),
-            FirstAnd::ZERO,
-            self.inputs(),
-        )
+        evaluate_labels(alloc, self.circuit(), FirstAnd::ZERO, self.evaluation())
     }
 
     /// Evaluates the job on one thread, as [`evaluate`] does.

@@ -84,7 +84,7 @@ impl<'c, A: Allocator, C: Allocator> Job<'c, A, C> {
         ensures { result ≡ active_from self.now read.now.gate read.now.first read.now.second }
     {
         let operation = self.circuit().gate(read.gate).operation;
-        evaluate_gate(number, self.rows(), operation, read.first, read.second)
+        evaluate_gate(number, self.rows(), operation, (read.first, read.second))
     }
 
     /// The active labels of the wires that two gates set, each as [`Job::active_by`] gives it. Two AND gates are

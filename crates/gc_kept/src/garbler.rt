@@ -17,7 +17,7 @@ use crate::room::has_room;
 use crate::values::sum_of;
 use gc_file::first_wire;
 use gc_file::sizes::PAIR;
-use gc_half::{RowPair, StreamingGarbler};
+use gc_half::{RowPair, Start, StreamingGarbler};
 use gc_job::BindFault;
 use gc_label::Seed;
 use std::alloc::Global;
@@ -72,13 +72,12 @@ impl KeptCircuit {
     {
         let given = self.given(alloc, offset, zero_labels, first)?;
         let circuit = self.circuit();
-        let Ok(garbler) = StreamingGarbler::begin(
-            alloc,
-            circuit,
-            given.offset,
-            &given.labels,
-            given.first,
-        ) else {
+        let start = Start {
+            offset: given.offset,
+            zero_labels: &given.labels,
+            first: given.first,
+        };
+        let Ok(garbler) = StreamingGarbler::begin(alloc, circuit, start) else {
             return Err(KeptFault::Garbling);
         };
         Ok(KeptGarbler {

@@ -10,7 +10,7 @@ ghost use Rattle.gc_kept.specs.Labels.{HasFromLabelsFault, IsFromLabels};
 use crate::bits::bit_byte;
 use crate::circuit::KeptCircuit;
 use crate::fault::KeptFault;
-use gc_half::{FirstAnd, Garbling, encode, garble_from, garble_one_thread};
+use gc_half::{FirstAnd, Garbling, Start, encode, garble_from, garble_one_thread};
 use gc_label::{Label, Offset, Seed, offset};
 use std::alloc::Global;
 use std::marker::Model;
@@ -82,8 +82,12 @@ impl KeptCircuit {
     {
         let given = self.given(alloc, offset, zero_labels, first)?;
         let circuit = self.circuit();
-        let Ok(garbling) = garble_from(alloc, circuit, given.offset, &given.labels, given.first)
-        else {
+        let start = Start {
+            offset: given.offset,
+            zero_labels: &given.labels,
+            first: given.first,
+        };
+        let Ok(garbling) = garble_from(alloc, circuit, start) else {
             return Err(KeptFault::Garbling);
         };
         Ok(KeptGarbling {

@@ -81,8 +81,7 @@ impl Sealed {
             task.and_number,
             task.offset,
             task.operation,
-            task.first,
-            task.second,
+            (task.first, task.second),
         );
         Sealed {
             task,

@@ -10,7 +10,7 @@ use gc_fixtures::compare::equal;
 use gc_fixtures::files::zero_seed;
 use gc_fixtures::growths::{Answer, answer_of, runs_refused};
 use gc_fixtures::refusing::Refusing;
-use gc_half::{garble_one_thread, garble_two, input_active_labels, input_zero_labels};
+use gc_half::{garble_one_thread, garble_two, input_zero_labels, padded_labels};
 use gc_label::Label;
 use linked_list_allocator::LocalHeap;
 use std::alloc::Allocator;
@@ -81,7 +81,7 @@ fn answer<A: Allocator + Copy>(
             answer_of(plain_eval(heap, circuit, values), Memory)
         }
         Call::ZeroLabels => answer_of(input_zero_labels(heap, circuit, &zero_seed()), Memory),
-        Call::ActiveLabels => answer_of(input_active_labels(heap, 5, &[Label::ZERO; 2]), Memory),
+        Call::ActiveLabels => answer_of(padded_labels(heap, 5, &[Label::ZERO; 2]), Memory),
         Call::Garble => answer_of(garble_one_thread(heap, circuit, &zero_seed()), Memory),
         Call::GarbleTwo => answer_of(
             garble_two(heap, circuit, &zero_seed(), &zero_seed()),

@@ -11,8 +11,8 @@ use gc_fixtures::compare::equal;
 use gc_fixtures::files::zero_seed;
 use gc_fixtures::refusing::Refusing;
 use gc_half::{
-    FirstAnd, RowPair, StreamingEvaluator, StreamingGarbler, encode, evaluate_labels, garble_from,
-    garble_one_thread,
+    Evaluation, FirstAnd, RowPair, Start, StreamingEvaluator, StreamingGarbler, encode,
+    evaluate_labels, garble_from, garble_one_thread,
 };
 use gc_label::{Label, fill_input_labels, offset};
 use std::alloc::{Allocator, Global};
@@ -111,8 +111,13 @@ fn garbles_in_pieces(
 {
     let offset = offset(&zero_seed());
     let given = given(alloc, circuit)?;
-    let whole = garble_from(alloc, circuit, offset, &given, first)?;
-    let mut garbler = StreamingGarbler::begin(alloc, circuit, offset, &given, first)?;
+    let start = Start {
+        offset,
+        zero_labels: &given,
+        first,
+    };
+    let whole = garble_from(alloc, circuit, start)?;
+    let mut garbler = StreamingGarbler::begin(alloc, circuit, start)?;
     let begun = zero_labels_of(alloc, circuit, &garbler)?;
     equal(begun.starts_with(&given), true)?;
     let rows = rows_left(alloc, circuit, &mut garbler, size)?;
@@ -139,14 +144,23 @@ fn evaluates_in_pieces(
 {
     let offset = offset(&zero_seed());
     let mut inputs = given(alloc, circuit)?;
-    let whole = garble_from(alloc, circuit, offset, &inputs, first)?;
+    let start = Start {
+        offset,
+        zero_labels: &inputs,
+        first,
+    };
+    let whole = garble_from(alloc, circuit, start)?;
     for label in &mut inputs {
         *label = encode(offset, *label, label.colour());
     }
     if !whole.fits(circuit) || inputs.len() != circuit.input_wires() as usize {
         return Err(Fail::new("the garbling is of another circuit"));
     }
-    let labels = evaluate_labels(alloc, circuit, whole.rows(), first, &inputs)?;
+    let given = Evaluation {
+        rows: whole.rows(),
+        inputs: &inputs,
+    };
+    let labels = evaluate_labels(alloc, circuit, first, given)?;
     let mut evaluator = StreamingEvaluator::begin(alloc, circuit, first, &inputs)?;
     feed_all(circuit, &mut evaluator, whole.rows(), size)?;
     if !evaluator.is_whole(circuit) {
@@ -222,7 +236,12 @@ fn refused_beginnings(rt: HostRuntime) -> Result<(), Fail> {
         return Err(Fail::new("the numbers are below the limit"));
     };
     let heap = Refusing::always(rt.alloc());
-    let garbler = StreamingGarbler::begin(&heap, &circuit, offset(&zero_seed()), &inputs, first);
+    let start = Start {
+        offset: offset(&zero_seed()),
+        zero_labels: &inputs,
+        first,
+    };
+    let garbler = StreamingGarbler::begin(&heap, &circuit, start);
     equal(garbler.err(), Some(Memory))?;
     let garbler = StreamingGarbler::begin_under_seed(&heap, &circuit, &zero_seed());
     equal(garbler.err(), Some(Memory))?;

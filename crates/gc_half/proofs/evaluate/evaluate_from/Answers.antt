@@ -19,8 +19,8 @@ evaluate_piece-active-requires-clause-room g c = omega (arith, c.requires.rows)
 pub returns : goal.returns
 returns g c =
     let netlist = c.args.circuit.now in
-    let rows = c.args.rows.now in
-    let given = slice_index c.args.inputs.now in
+    let rows = c.args.given.rows.now in
+    let given = slice_index c.args.given.inputs.now in
     let rule = active_rule (numbered_from c.args.first hash) netlist rows in
     let local = active_local (numbered_from c.args.first hash) netlist rows in
     let ends = c.evaluate_piece-active.ensures.ends in
@@ -30,7 +30,7 @@ returns g c =
       evaluation = solution_solves rule local netlist c.law_lawful.ensures given;
       table = c.into_labels.ensures
           ∙ rw whole at (c.evaluate_piece-active.ensures.evaluated.labels c.args.first
-          c.args.inputs.now [] refl (c.new.ensures.numbered ∙ omega arith)
+          c.args.given.inputs.now [] refl (c.new.ensures.numbered ∙ omega arith)
           (c.new.ensures.labels ∙ rw c.wires.ensures.count at c.in_ok-labels.ensures
           ∙ rw (after-zero rule netlist given) refl));
     }

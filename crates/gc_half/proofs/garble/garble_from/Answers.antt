@@ -10,15 +10,15 @@ garble_over-requires-clause-wires g c =
 
 pub garble_over-requires-clause-others : goal.garble_over-requires-clause-others
 garble_over-requires-clause-others g c =
-    padded-others c.args.circuit.now c.law_lawful.ensures c.args.zero_labels.now _ c.requires
+    padded-others c.args.circuit.now c.law_lawful.ensures c.args.start.zero_labels.now _ c.requires
     (rw c.wires.ensures.count at c.in_ok-labels.ensures)
 
 pub returns : goal.returns
 returns g c =
     let netlist = c.args.circuit.now in
-    let given = c.args.zero_labels.now in
+    let given = c.args.start.zero_labels.now in
     IfOk-weaker c.garble_over.result _ _
-    (λ made is. IsGarbledFrom-given c.args.offset _ _ c.args.first netlist made
+    (λ made is. IsGarbledFrom-given c.args.start.offset _ _ c.args.start.first netlist made
     (λ w input. padded netlist c.law_lawful.ensures given _ c.requires
     (rw c.wires.ensures.count at c.in_ok-labels.ensures) w) is)
     c.garble_over.ensures

@@ -15,7 +15,7 @@ garble_piece-table-requires-clause-begun g c =
       c.self.inside.first,
       c.requires.0,
       c.requires.1,
-      piece-begun c.args.circuit.now c.requires.0 c.requires.1 _ is begins c.plus-first.ensures c.args.rows.now,
+      piece-begun _ _ _ _ is begins c.plus-first.ensures c.args.rows.now,
     )
 
 pub finish-labels-requires-clause-room : goal.finish-labels-requires-clause-room
@@ -25,7 +25,7 @@ finish-labels-requires-clause-room g c =
     let ensured = c.garble_piece-table.ensures in
     omega (
       arith,
-      piece-made c.args.circuit.now c.requires.0 c.requires.1 _ is begins c.plus-first.ensures c.args.rows.now ensured.garbled ensured.ends,
+      piece-made _ _ _ _ is begins c.plus-first.ensures _ ensured.garbled ensured.ends,
       c.garble_piece-table.auto.rows,
     )
 
@@ -36,7 +36,7 @@ finish-labels-requires-clause-number g c =
     let ensured = c.garble_piece-table.ensures in
     omega (
       arith,
-      piece-made c.args.circuit.now c.requires.0 c.requires.1 _ is begins c.plus-first.ensures c.args.rows.now ensured.garbled ensured.ends,
+      piece-made _ _ _ _ is begins c.plus-first.ensures _ ensured.garbled ensured.ends,
       ands-few c.args.circuit.now,
       c.law_lawful.ensures.few_gates,
     )
@@ -49,7 +49,7 @@ overflow_add-self g c =
     omega (
       arith,
       c.finish-labels.ensures.made,
-      piece-made c.args.circuit.now c.requires.0 c.requires.1 _ is begins c.plus-first.ensures c.args.rows.now ensured.garbled ensured.ends,
+      piece-made _ _ _ _ is begins c.plus-first.ensures _ ensured.garbled ensured.ends,
       ands-few c.args.circuit.now,
       c.law_lawful.ensures.few_gates,
     )
@@ -61,7 +61,7 @@ returns-clause-piece g c = λ given rows began.
     let ensured = c.garble_piece-table.ensures in
     let finish = c.finish-labels.ensures in
     rw finish.rows
-    (garbler-after c.args.circuit.now given rows _ is begins c.plus-first.ensures c.args.rows.now ensured.garbled ensured.ends _ _
+    (garbler-after _ _ _ _ is begins c.plus-first.ensures _ ensured.garbled ensured.ends _ _
     finish.labels finish.made)
 
 pub returns-clause-begun : goal.returns-clause-begun
@@ -73,7 +73,7 @@ returns-clause-begun g c =
       given = c.requires.0;
       rows = c.requires.1 ++ take c.finish-labels.result.1 c.finish-labels.new.rows;
       so_far = returns-clause-piece g c c.requires.0 c.requires.1 c.requires.2;
-      whole = piece-whole c.args.circuit.now c.requires.0 c.requires.1 _ is begins c.plus-first.ensures c.args.rows.now ensured.garbled
+      whole = piece-whole _ _ _ _ is begins c.plus-first.ensures _ ensured.garbled
           ensured.ends _ c.finish-labels.ensures.made;
     }
 
@@ -83,7 +83,7 @@ returns-clause-count g c =
     let begins = rw c.replace-labels.ensures.value at c.new-begun.ensures in
     let ensured = c.garble_piece-table.ensures in
     rw (← c.self.view_is) (c.finish-labels.ensures.made
-    ∙ piece-made c.args.circuit.now c.requires.0 c.requires.1 _ is begins c.plus-first.ensures c.args.rows.now ensured.garbled ensured.ends)
+    ∙ piece-made _ _ _ _ is begins c.plus-first.ensures _ ensured.garbled ensured.ends)
 
 pub returns-clause-rest : goal.returns-clause-rest
 returns-clause-rest g c = λ i past.

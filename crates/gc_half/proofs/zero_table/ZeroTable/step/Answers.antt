@@ -13,7 +13,7 @@ returns-clause-labels g c =
     let read = c.make_read.ensures in
     let offset : c.self.inside.offset ≡ old.offset =
     ap (λ (v : ZeroTableParts). v.offset) c.self.view_is ∙ read.offset in
-    let label = rw (offset, c.read-first.ensures.first, c.read-first.ensures.second, read.labels)
+    let label = rw (offset, c.read-read.ensures.first, c.read-read.ensures.second, read.labels)
     at c.garble_gate-label.ensures.zero_label in
     c.put.ensures.labels
     ∙ rw read.labels (ap (set old.labels c.args.gate.set) (label

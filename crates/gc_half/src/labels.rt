@@ -1,4 +1,4 @@
-//! Tables of zero labels.
+//! Tables of labels, which garbling and evaluating begin with.
 
 ghost use Rattle.std.specs.Prelude.{◌≡◌, ◌<◌, ◌≤◌, ℕ, IfOk, OnOk, length, map, slice_index};
 ghost use Rattle.std.specs.List.{range_with_len};
@@ -29,9 +29,9 @@ pub fn input_zero_labels<A: Allocator + Copy, C: Allocator>(
     Ok(labels)
 }
 
-/// These labels of the input wires, and 16 zero bytes for each other wire. It allocates once. The caller ensures that
-/// there are no more labels than wires.
-pub(crate) fn padded_labels<A: Allocator + Copy>(
+/// These labels of the input wires, zero labels or active ones, and 16 zero bytes for each other wire. It allocates
+/// once, for all wires. The caller ensures that there are no more labels than wires.
+pub fn padded_labels<A: Allocator + Copy>(
     alloc: A,
     wires: u32,
     inputs: &[Label],

@@ -1,5 +1,5 @@
 use Rattle.gc_half.proofs.GarbleLemmas.{inputs-padded}
-use Rattle.gc_half.proofs.zero_labels.input_zero_labels.Goals as goal
+use Rattle.gc_half.proofs.labels.input_zero_labels.Goals as goal
 
 pub returns : goal.returns
 returns g c =

@@ -1,7 +1,7 @@
 use Rattle.std.proofs.Common.{arith}
 use Rattle.std.proofs.lemmas.Grind.{common_steps}
 use Rattle.gc_netlist.proofs.Tables.{table_padded}
-use Rattle.gc_half.proofs.zero_labels.padded_labels.Goals as goal
+use Rattle.gc_half.proofs.labels.padded_labels.Goals as goal
 
 pub returns : goal.returns
 returns g c =
