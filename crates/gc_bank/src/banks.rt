@@ -11,7 +11,7 @@ ghost use Rattle.gc_bank.specs.Seats.{IsSeatOf, IsSameSeat, IsInside, InRound, v
 use crate::seat::{BankSeat, Banks};
 use gc_label::Label;
 use gc_rounds::{Entry, Reopening};
-use gc_steps::Answer;
+use gc_steps::{Answer, Four};
 use std::alloc::Allocator;
 
 impl<B: Allocator, A: Allocator, C: Allocator> BankSeat<B, A, C> {
@@ -118,28 +118,25 @@ impl<'j, 'c, B: Allocator, A: Allocator, C: Allocator> Banks<'j, 'c, B, A, C> {
     pub(crate) fn step_four(
         &self,
         seat: &mut BankSeat<B, A, C>,
-        a: u32,
-        b: u32,
-        c: u32,
-        d: u32,
+        gates: Four<u32>,
     ) -> (Answer, Answer, Answer, Answer)
         requires own { IsSeatOf self.now seat.old }
         requires inside { IsInside (view seat.old) }
         requires first { InRound (jobs_on self.now) (view seat.old)
-            (λ job. (a < gates_of job) × (b < gates_of job)) }
+            (λ job. (gates.a < gates_of job) × (gates.b < gates_of job)) }
         requires last { InRound (jobs_on self.now) (view seat.old)
-            (λ job. (c < gates_of job) × (d < gates_of job)) }
+            (λ job. (gates.c < gates_of job) × (gates.d < gates_of job)) }
         ensures own { IsSeatOf self.now seat.new }
         ensures same { IsSameSeat seat.old seat.new }
         ensures stays { Stays (view seat.old) (view seat.new) }
         ensures answers { InRound (jobs_on self.now) (view seat.old)
-            (λ job. AnswersFour job (round_of (view seat.old)) a b c d 72 (view seat.old)
-            (view seat.new) result) }
+            (λ job. AnswersFour job (round_of (view seat.old)) gates.a gates.b gates.c gates.d 72
+            (view seat.old) (view seat.new) result) }
     {
         let Some(round) = seat.inside else {
             unreachable!()
         };
-        let answers = self.at(round).step_four(&mut seat.place, a, b, c, d);
+        let answers = self.at(round).step_four(&mut seat.place, gates);
         let made = answers.0.made() + answers.1.made() + answers.2.made() + answers.3.made();
         seat.count = seat.count.saturating_add(made);
         answers

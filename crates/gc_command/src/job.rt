@@ -10,7 +10,7 @@ use crate::binder::Binder;
 use crate::fault::Fault;
 use gc_eval::evaluate_many;
 use gc_file::{Garbled, LabelFile};
-use gc_job::{Job, evaluate};
+use gc_job::{Job, JobFiles, evaluate};
 use gc_workers::Open;
 use std::alloc::Allocator;
 use std::sync::Wait;
@@ -36,7 +36,11 @@ impl<A: Allocator + Copy + Send + Sync> Binder<'_, A> {
             → IfErr result (HasJobFault self.now.circuit.now given.0 given.1.items workers) }
     {
         let (garbled, labels) = given;
-        let job = Job::bind_by_digest(self.alloc, self.circuit, self.digest, garbled, &labels)?;
+        let files = JobFiles {
+            garbled,
+            labels: &labels,
+        };
+        let job = Job::bind_by_digest(self.alloc, self.circuit, self.digest, files)?;
         if workers == 1 {
             return Ok(evaluate(self.alloc, &job)?);
         }

@@ -14,7 +14,7 @@ use crate::fault::Fault;
 use crate::job_list::words_of_line;
 use gc_disk::Files;
 use gc_file::{LabelFile, read_garbled_by_digest};
-use gc_job::Job;
+use gc_job::{Job, JobFiles};
 use std::alloc::Allocator;
 
 /// The files that a line names, as they were read. The garbled file's bytes aren't checked yet, so that those of
@@ -95,7 +95,11 @@ impl<'c, A: Allocator + Copy> Binder<'c, A> {
             }
             LineFiles::Whole(garbled, labels) => {
                 let garbled = read_garbled_by_digest(self.alloc, &garbled, trailer)?;
-                Ok(Job::bind_by_digest(self.alloc, self.circuit, self.digest, garbled, &labels)?)
+                let bound = JobFiles {
+                    garbled,
+                    labels: &labels,
+                };
+                Ok(Job::bind_by_digest(self.alloc, self.circuit, self.digest, bound)?)
             }
         }
     }
@@ -119,7 +123,11 @@ impl<'c, A: Allocator + Copy> Binder<'c, A> {
         };
         let garbled = read_garbled_file(self.alloc, garbled, files)?;
         let labels = read_label_files(self.alloc, labels, files)?;
-        Ok(Job::bind_by_digest(self.alloc, self.circuit, self.digest, garbled, &labels)?)
+        let bound = JobFiles {
+            garbled,
+            labels: &labels,
+        };
+        Ok(Job::bind_by_digest(self.alloc, self.circuit, self.digest, bound)?)
     }
 }
 

@@ -21,6 +21,13 @@ use std::alloc::{AllocError, Allocator};
 use std::thread;
 use std::thread::Threads;
 
+/// What a board is opened with: the words that its table begins with, and the tables of its job's circuit.
+#[derive(Drop)]
+struct BoardTables<'c, B: Allocator, C: Allocator> {
+    words: Vec<u64, B>,
+    wiring: Wiring<'c, B, C>,
+}
+
 /// This number of new seats, out of a place that stands for them all.
 fn deal_all<A: Allocator, B: Allocator, C: Allocator>(
     words: &Words<OneJob<A, C>, OneRound>,
@@ -64,26 +71,28 @@ impl<'j, 'c, B: Allocator + Copy, A: Allocator, C: Allocator> EvalBoard<'j, 'c, 
         ensures count { IfOk result (λ b. (seats_on b.0 ≡ seats) × (length b.1.items ≡ seats)) }
         ensures seats { IfOk result (λ b. All (λ s. IsSeatOf b.0 s × IsNew (view s)) b.1.items) }
     {
-        let words = free_words(alloc, job.circuit().gates())?;
-        let wiring = Wiring::of(alloc, job.circuit())?;
-        EvalBoard::of_tables(alloc, job, seats, words, wiring)
+        let tables = BoardTables {
+            words: free_words(alloc, job.circuit().gates())?,
+            wiring: Wiring::of(alloc, job.circuit())?,
+        };
+        EvalBoard::of_tables(alloc, job, seats, tables)
     }
 
-    /// The same, of the words that the table begins with and the tables of the job's circuit.
+    /// The same, of these tables.
     fn of_tables(
         alloc: B,
         job: &'j Job<'c, A, C>,
         seats: u32,
-        words: Vec<u64, B>,
-        wiring: Wiring<'c, B, C>,
+        tables: BoardTables<'c, B, C>,
     ) -> Result<(EvalBoard<'j, 'c, B, A, C>, Vec<EvalSeat<A, C>, B>), OpenFault>
         requires few { (0 < seats) × (seats ≤ MAX_WORKERS) }
-        requires words { words.items ≡ replicate (3 * gates_of job.now + 1) 0 }
-        requires wiring { wiring ≡ job.now.circuit }
+        requires words { tables.entry.words.items ≡ replicate (3 * gates_of job.now + 1) 0 }
+        requires wiring { tables.entry.wiring ≡ job.now.circuit }
         ensures job { IfOk result (λ b. job_on b.0 ≡ job.now) }
         ensures count { IfOk result (λ b. (seats_on b.0 ≡ seats) × (length b.1.items ≡ seats)) }
         ensures seats { IfOk result (λ b. All (λ s. IsSeatOf b.0 s × IsNew (view s)) b.1.items) }
     {
+        let BoardTables { words, wiring } = tables;
         let key = Key {
             jobs: 1,
             seats,
@@ -132,7 +141,11 @@ impl<'j, 'c, B: Allocator + Copy + Send + Sync, A: Allocator, C: Allocator + Syn
                 ensures { IfOk result (λ wiring. wiring ≡ circuit.entry.now) }
             { Wiring::of(alloc, circuit) },
         );
-        EvalBoard::of_tables(alloc, job, seats, words?, wiring?)
+        let tables = BoardTables {
+            words: words?,
+            wiring: wiring?,
+        };
+        EvalBoard::of_tables(alloc, job, seats, tables)
     }
 }
 

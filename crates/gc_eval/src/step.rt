@@ -10,7 +10,7 @@ use crate::one_job::OneJob;
 use crate::seat::{EvalBoard, EvalSeat};
 use gc_gates::{OneRound, copy_known};
 use gc_label::Label;
-use gc_steps::{Answer, Round};
+use gc_steps::{Answer, Four, Round};
 use std::alloc::Allocator;
 
 impl<A: Allocator, C: Allocator> EvalSeat<A, C> {
@@ -82,20 +82,19 @@ impl<'j, 'c, B: Allocator, A: Allocator, C: Allocator> EvalBoard<'j, 'c, B, A, C
     pub(crate) fn step_four(
         &self,
         seat: &mut EvalSeat<A, C>,
-        a: u32,
-        b: u32,
-        c: u32,
-        d: u32,
+        gates: Four<u32>,
     ) -> (Answer, Answer, Answer, Answer)
         requires own { IsSeatOf self.now seat.old }
-        requires first { (a < gates_of (job_on self.now)) × (b < gates_of (job_on self.now)) }
-        requires last { (c < gates_of (job_on self.now)) × (d < gates_of (job_on self.now)) }
+        requires first { (gates.a < gates_of (job_on self.now))
+            × (gates.b < gates_of (job_on self.now)) }
+        requires last { (gates.c < gates_of (job_on self.now))
+            × (gates.d < gates_of (job_on self.now)) }
         ensures own { IsSeatOf self.now seat.new }
         ensures same { IsSameSeat seat.old seat.new }
-        ensures answer { AnswersFour (job_on self.now) a b c d 72
+        ensures answer { AnswersFour (job_on self.now) gates.a gates.b gates.c gates.d 72
             (view seat.old) (view seat.new) result }
     {
-        let answers = self.round().step_four(&mut seat.place, a, b, c, d);
+        let answers = self.round().step_four(&mut seat.place, gates);
         let made = answers.0.made() + answers.1.made() + answers.2.made() + answers.3.made();
         seat.count = seat.count.saturating_add(made);
         answers

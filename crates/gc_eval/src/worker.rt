@@ -46,12 +46,12 @@ impl<B: Allocator, A: Allocator, C: Allocator> Worker<B, A, C> {
                 self.walk.note(a, answers.0);
                 self.walk.note(b, answers.1);
             }
-            GateGroup::Four(a, b, c, d) => {
-                let answers = board.step_four(&mut self.seat, a, b, c, d);
-                self.walk.note(a, answers.0);
-                self.walk.note(b, answers.1);
-                self.walk.note(c, answers.2);
-                self.walk.note(d, answers.3);
+            GateGroup::Four(gates) => {
+                let answers = board.step_four(&mut self.seat, gates);
+                self.walk.note(gates.a, answers.0);
+                self.walk.note(gates.b, answers.1);
+                self.walk.note(gates.c, answers.2);
+                self.walk.note(gates.d, answers.3);
             }
         }
     }

@@ -1,14 +1,13 @@
 //! Each growth refused in turn of the opening of banks and of the evaluation of a list of jobs.
 
 use crate::fixtures::{on_three_jobs, on_two_jobs};
-use crate::jobs::{evaluated, one_after_another};
-use gc_bank::{Banks, one_circuit};
+use crate::jobs::{one_after_another, together};
+use gc_bank::{Banks, evaluate_jobs};
 use gc_fixtures::circuits::many_ands;
 use gc_fixtures::compare::equal;
 use gc_fixtures::growths::{Answer, Met, plain_if, refusals_met};
 use gc_fixtures::refusing::Refusing;
 use gc_job::{EvalFault, Job};
-use gc_rounds::MAX_JOBS;
 use gc_workers::{Open, OpenFault};
 use std::alloc::{Allocator, Global};
 use std::sync::Wait;
@@ -17,9 +16,7 @@ use std::thread::Threads;
 
 /// How many seats banks over this memory have. None: the jobs can't be evaluated together.
 fn opened<A: Allocator + Copy>(alloc: A, jobs: &[Job]) -> Option<Result<usize, OpenFault>> {
-    if jobs.is_empty() || jobs.len() > MAX_JOBS || !one_circuit(jobs) {
-        return None;
-    }
+    let jobs = together(jobs)?;
     Some(Banks::open(alloc, jobs, 2).map(|(_, seats)| seats.len()))
 }
 
@@ -56,13 +53,13 @@ fn same(one: &[Vec<bool, &Refusing<Global>>], other: &[Vec<bool>]) -> bool {
 
 /// What came of an evaluation that returns these bits with ample memory.
 fn answer_of_all(
-    found: Option<Result<Vec<Vec<bool, &Refusing<Global>>, &Refusing<Global>>, EvalFault>>,
+    found: Result<Vec<Vec<bool, &Refusing<Global>>, &Refusing<Global>>, EvalFault>,
     wanted: &[Vec<bool>],
 ) -> Answer {
     match found {
-        Some(Ok(all)) => plain_if(same(&all, wanted)),
-        Some(Err(EvalFault::Memory)) => Answer::Memory,
-        _ => Answer::Other,
+        Ok(all) => plain_if(same(&all, wanted)),
+        Err(EvalFault::Memory) => Answer::Memory,
+        Err(_) => Answer::Other,
     }
 }
 
@@ -73,8 +70,9 @@ fn refused_runs<R: AllocGlobal + Threads + Wait + Sync>(
     workers: u32,
 ) -> Result<Met, Fail> {
     let plain = one_after_another(rt.alloc(), jobs)?;
-    let met = refusals_met(rt.alloc(), |heap| {
-        answer_of_all(evaluated(rt, heap, jobs, workers, &Open), &plain)
+    let met = refusals_met(rt.alloc(), |heap| match together(jobs) {
+        Some(jobs) => answer_of_all(evaluate_jobs(rt, heap, jobs, workers, &Open), &plain),
+        None => Answer::Other,
     })?;
     Ok(met)
 }

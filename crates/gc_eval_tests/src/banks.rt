@@ -1,16 +1,18 @@
 //! Tests of banks: what the calls of two seats that take turns return, and that none of them allocates.
 
 ghost use Rattle.std.specs.Prelude.{◌≡◌, ◌<◌, length, All, IfOk};
-ghost use Rattle.gc_bank.specs.Seats.{IsSeatOf, IsInside, view, round_of, jobs_on};
+ghost use Rattle.gc_bank.specs.Seats.{IsSeatOf, IsInside, InRound, view, jobs_on};
 
 use crate::boards::one_seat;
 use crate::fixtures::on_three_jobs;
+use crate::jobs::together;
 use gc_bank::{BankSeat, Banks, one_circuit};
+use gc_circuit::Circuit;
 use gc_fixtures::compare::equal;
 use gc_fixtures::refusing::Refusing;
 use gc_job::Job;
 use gc_label::Label;
-use gc_rounds::{Entry, MAX_JOBS, Reopening};
+use gc_rounds::{Entry, Reopening};
 use gc_steps::Answer;
 use gc_workers::CloseRefused;
 use std::alloc::{Allocator, Global};
@@ -39,21 +41,19 @@ enum Reply {
     Barred,
 }
 
-/// Makes a call of a seat that is inside this round.
+/// Makes a call of a seat that is inside a round, whose job is on this circuit.
 fn called_inside<B: Allocator>(
     banks: &Banks<'_, '_, B>,
-    jobs: &[Job],
+    circuit: &Circuit,
     seat: &mut BankSeat<B>,
-    round: u32,
     call: Call,
 ) -> Reply
     requires own { IsSeatOf banks.now seat.old }
-    requires inside { IsInside (view seat.old) × (round_of (view seat.old) ≡ round) }
-    requires jobs { jobs_on banks.now ≡ jobs.now }
-    requires round { round < length jobs.now }
+    requires inside { IsInside (view seat.old) }
+    requires circuit { InRound (jobs_on banks.now) (view seat.old)
+        (λ job. job.circuit ≡ circuit.now) }
     ensures { IsSeatOf banks.now seat.new }
 {
-    let circuit = jobs[round as usize].circuit();
     match call {
         Call::Step(gate) if gate < circuit.gates() => Reply::Answer(banks.step(seat, gate)),
         Call::Label(wire) if wire < circuit.wires() => Reply::Label(banks.label(seat, wire)),
@@ -82,7 +82,7 @@ fn called<B: Allocator>(
 {
     match (seat.inside(), call) {
         (Some(round), _) if (round as usize) < jobs.len() => {
-            called_inside(banks, jobs, seat, round, call)
+            called_inside(banks, jobs[round as usize].circuit(), seat, call)
         }
         (None, Call::Enter(round)) if (round as usize) < jobs.len() => {
             Reply::Entry(banks.enter(seat, round))
@@ -94,17 +94,22 @@ fn called<B: Allocator>(
     }
 }
 
+/// Two seats of banks.
+#[derive(Drop)]
+struct TwoSeats<B: Allocator = Global> {
+    one: BankSeat<B>,
+    two: BankSeat<B>,
+}
+
 /// Banks with two seats for these jobs.
 fn two_seats<'j, 'c, B: Allocator + Copy>(
     alloc: B,
     jobs: &'j [Job<'c>],
-) -> Result<(Banks<'j, 'c, B>, BankSeat<B>, BankSeat<B>), Fail>
+) -> Result<(Banks<'j, 'c, B>, TwoSeats<B>), Fail>
     ensures jobs { IfOk result (λ b. jobs_on b.0 ≡ jobs.now) }
-    ensures seats { IfOk result (λ b. IsSeatOf b.0 b.1 × IsSeatOf b.0 b.2) }
+    ensures seats { IfOk result (λ b. IsSeatOf b.0 b.1.one × IsSeatOf b.0 b.1.two) }
 {
-    if jobs.is_empty() || jobs.len() > MAX_JOBS || !one_circuit(jobs) {
-        return Err(Fail::new("the jobs are on one circuit"));
-    }
+    let jobs = together(jobs).ok_or("the jobs are on one circuit")?;
     let (banks, mut seats) = Banks::open(alloc, jobs, 2)?;
     let Some(two) = seats.pop() else {
         return Err(Fail::new("there are two seats"));
@@ -112,7 +117,7 @@ fn two_seats<'j, 'c, B: Allocator + Copy>(
     let Some(one) = seats.pop() else {
         return Err(Fail::new("there are two seats"));
     };
-    Ok((banks, one, two))
+    Ok((banks, TwoSeats { one, two }))
 }
 
 /// The label that a board for the job alone makes of gate 0.
@@ -179,19 +184,17 @@ fn script(alloc: Global, jobs: &[Job]) -> Result<[(Who, Call, Reply); 18], Fail>
 fn first_other<B: Allocator>(
     banks: &Banks<'_, '_, B>,
     jobs: &[Job],
-    one: &mut BankSeat<B>,
-    two: &mut BankSeat<B>,
+    seats: &mut TwoSeats<B>,
     script: &[(Who, Call, Reply)],
 ) -> Option<(Call, Reply)>
-    requires one { IsSeatOf banks.now one.old }
-    requires two { IsSeatOf banks.now two.old }
+    requires own { IsSeatOf banks.now seats.old.one × IsSeatOf banks.now seats.old.two }
     requires jobs { jobs_on banks.now ≡ jobs.now }
-    ensures { IsSeatOf banks.now one.new × IsSeatOf banks.now two.new }
+    ensures { IsSeatOf banks.now seats.new.one × IsSeatOf banks.now seats.new.two }
 {
     for (who, call, wanted) in script {
         let found = match who {
-            Who::One => called(banks, jobs, one, *call),
-            Who::Two => called(banks, jobs, two, *call),
+            Who::One => called(banks, jobs, &mut seats.one, *call),
+            Who::Two => called(banks, jobs, &mut seats.two, *call),
         };
         if found != *wanted {
             return Some((*call, found));
@@ -206,8 +209,8 @@ fn take_turns(alloc: Global, jobs: &[Job]) -> Result<(), Fail> {
         return Err(Fail::new("there are three jobs"));
     }
     let script = script(alloc, jobs)?;
-    let (banks, mut one, mut two) = two_seats(alloc, jobs)?;
-    equal(first_other(&banks, jobs, &mut one, &mut two, &script), None)
+    let (banks, mut seats) = two_seats(alloc, jobs)?;
+    equal(first_other(&banks, jobs, &mut seats, &script), None)
 }
 
 #[test]
@@ -233,7 +236,7 @@ fn given_back<'j, 'c>(
 /// Banks are closed neither while one of their two seats is inside a round nor without it. With both outside they are,
 /// and what it made is counted.
 fn close_at_last(alloc: Global, jobs: &[Job]) -> Result<(), Fail> {
-    let (banks, mut one, two) = two_seats(alloc, jobs)?;
+    let (banks, TwoSeats { mut one, two }) = two_seats(alloc, jobs)?;
     called(&banks, jobs, &mut one, Call::Enter(1));
     called(&banks, jobs, &mut one, Call::Step(0));
     let mut seats = Vec::new(alloc);
@@ -266,9 +269,10 @@ fn works_without_memory(
     script: &[(Who, Call, Reply)],
 ) -> Result<u64, Fail> {
     let mut seats = Vec::with_capacity(heap, 2)?;
-    let (banks, mut one, mut two) = two_seats(heap, jobs)?;
+    let (banks, mut both) = two_seats(heap, jobs)?;
     let opened = heap.growths();
-    first_other(&banks, jobs, &mut one, &mut two, script);
+    first_other(&banks, jobs, &mut both, script);
+    let TwoSeats { one, two } = both;
     if one.inside().is_some() || two.inside().is_some() {
         return Err(Fail::new("both seats are outside"));
     }

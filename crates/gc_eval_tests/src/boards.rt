@@ -278,23 +278,20 @@ fn one_seat_makes_all(rt: HostRuntime) -> Result<(), Fail> {
     )
 }
 
-/// Has one seat make all gates and share them with the other one. It returns the label of a wire.
+/// Has one seat make all gates and share them with the other one.
 fn share<'j, 'c, B: Allocator>(
     board: &EvalBoard<'j, 'c, B>,
     job: &Job<'c>,
     one: &mut EvalSeat,
     two: &mut EvalSeat,
-    wire: u32,
-) -> Option<Label>
+)
     requires one { IsSeatOf board.now one.old }
     requires two { IsSeatOf board.now two.old }
     requires job { job_on board.now ≡ job.now }
-    requires wire { wire < job.now.circuit.wires }
     ensures { IsSeatOf board.now one.new × IsSeatOf board.now two.new }
 {
     step_all(board, job, one);
     board.tell(one, two);
-    board.label(two, wire)
 }
 
 /// Opens a board over this memory, has its seats work, and closes it. It returns whether a wire has the same label
@@ -305,7 +302,8 @@ fn works_without_memory(heap: &Refusing<Global>, job: &Job, wire: u32) -> Result
     let mut seats = Vec::with_capacity(heap, 2)?;
     let (board, mut one, mut two) = two_seats(heap, job)?;
     let opened = heap.growths();
-    let label = share(&board, job, &mut one, &mut two, wire);
+    share(&board, job, &mut one, &mut two);
+    let label = board.label(&mut two, wire);
     seats.push(one)?;
     seats.push(two)?;
     let Ok(active) = board.close(seats) else {
@@ -329,30 +327,6 @@ fn an_opened_board_grows_nothing(rt: HostRuntime) -> Result<(), Fail> {
     })
 }
 
-/// Lets each seat step all gates, in at most this many threads.
-fn step_together<'j, 'c, R: Threads + Sync>(
-    rt: &R,
-    threads: usize,
-    board: &EvalBoard<'j, 'c>,
-    job: &Job<'c>,
-    seats: &mut [EvalSeat],
-)
-    requires threads { 0 < threads }
-    requires own { All (IsSeatOf board.now) seats.old }
-    requires job { job_on board.now ≡ job.now }
-    ensures { All (IsSeatOf board.now) seats.new }
-{
-    thread::for_each_mut(
-        rt,
-        seats,
-        threads,
-        &|_i: usize, seat: &mut EvalSeat|
-            requires { IsSeatOf board.now seat.old × (job_on board.now ≡ job.now) }
-            ensures { IsSeatOf board.entry.now seat.new }
-        { step_all(board, job, seat) },
-    );
-}
-
 /// Lets each seat step all gates, at first each in a thread of its own, and then one after another.
 fn step_twice<'j, 'c, R: Threads + Sync>(
     rt: &R,
@@ -364,8 +338,17 @@ fn step_twice<'j, 'c, R: Threads + Sync>(
     requires job { job_on board.now ≡ job.now }
     ensures { All (IsSeatOf board.now) seats.new }
 {
-    step_together(rt, 8, board, job, seats);
-    step_together(rt, 1, board, job, seats);
+    for threads in [8usize, 1] {
+        thread::for_each_mut(
+            rt,
+            seats,
+            threads.max(1),
+            &|_i: usize, seat: &mut EvalSeat|
+                requires { IsSeatOf board.now seat.old × (job_on board.now ≡ job.now) }
+                ensures { IsSeatOf board.entry.now seat.new }
+            { step_all(board, job, seat) },
+        );
+    }
 }
 
 /// What this many seats make, at first each in a thread of its own, and then one after another, decodes to the output

@@ -1,6 +1,9 @@
 //! Tests of the evaluation of lists of jobs: the results are those of one thread, and the threads are really
 //! at work.
 
+ghost use Rattle.std.specs.Prelude.{◌≡◌, ◌<◌, ◌≤◌, length, IfSome};
+ghost use Rattle.gc_bank.specs.Jobs.{AreOnOneCircuit};
+
 use crate::fixtures::{on_three_jobs, on_two_jobs};
 use gc_bank::{evaluate_jobs, one_circuit};
 use gc_fixtures::circuits::{and_chains, many_ands};
@@ -9,28 +12,21 @@ use gc_fixtures::counting::Counting;
 use gc_fixtures::meeting::Meeting;
 use gc_job::{EvalFault, Job, evaluate};
 use gc_rounds::MAX_JOBS;
-use gc_workers::Gatehouse;
-use std::alloc::{Allocator, Global};
+use std::alloc::Global;
 use std::sync::Wait;
 use std::test::Fail;
 use std::thread::Threads;
 
-/// What the evaluation with this many workers returns; None where the jobs can't be evaluated together.
-pub(crate) fn evaluated<
-    B: Allocator + Copy + Send + Sync,
-    H: Gatehouse + Sync,
-    R: Threads + Wait + Sync,
->(
-    rt: &R,
-    alloc: B,
-    jobs: &[Job],
-    workers: u32,
-    observer: &H,
-) -> Option<Result<Vec<Vec<bool, B>, B>, EvalFault>> {
+/// These jobs, where they can be evaluated together.
+pub(crate) fn together<'s, 'c>(jobs: &'s [Job<'c>]) -> Option<&'s [Job<'c>]>
+    ensures same { IfSome result (λ given. given.now ≡ jobs.now) }
+    ensures few { IfSome result (λ given. (0 < length given.now) × (length given.now ≤ MAX_JOBS)) }
+    ensures circuit { IfSome result (λ given. AreOnOneCircuit given.now) }
+{
     if jobs.is_empty() || jobs.len() > MAX_JOBS || !one_circuit(jobs) {
         return None;
     }
-    Some(evaluate_jobs(rt, alloc, jobs, workers, observer))
+    Some(jobs)
 }
 
 /// What the evaluation on one thread returns for each job, one after another.
@@ -46,8 +42,11 @@ pub(crate) fn one_after_another(alloc: Global, jobs: &[Job]) -> Result<Vec<Vec<b
 /// those of one thread.
 fn meet<R: AllocGlobal + Threads + Wait + Sync>(rt: &R, jobs: &[Job], workers: u32) -> bool {
     let observer = Meeting::new();
-    let found = evaluated(rt, rt.alloc(), jobs, workers, &observer);
-    let is_right = found == Some(one_after_another(rt.alloc(), jobs));
+    let Some(jobs) = together(jobs) else {
+        return false;
+    };
+    let found = evaluate_jobs(rt, rt.alloc(), jobs, workers, &observer);
+    let is_right = found == one_after_another(rt.alloc(), jobs);
     observer.has_met() && observer.are_below(workers) && is_right
 }
 
@@ -61,8 +60,9 @@ fn is_each_reported<R: AllocGlobal + Threads + Wait + Sync>(
     let alloc = rt.alloc();
     let gates = jobs.first().map_or(0, |job| job.circuit().gates());
     let observer = Counting::new(alloc, gates)?;
-    let found = evaluated(rt, alloc, jobs, workers, &observer);
-    let is_right = found == Some(one_after_another(alloc, jobs));
+    let jobs = together(jobs).ok_or("the jobs are on one circuit")?;
+    let found = evaluate_jobs(rt, alloc, jobs, workers, &observer);
+    let is_right = found == one_after_another(alloc, jobs);
     let each = jobs.len() as u64;
     let most = if jobs.len() < workers as usize {
         u64::MAX

@@ -2,7 +2,8 @@
 //! served the first.
 
 use crate::fixtures::job_of;
-use crate::jobs::{evaluated, one_after_another};
+use crate::jobs::{one_after_another, together};
+use gc_bank::evaluate_jobs;
 use gc_circuit::Circuit;
 use gc_file::Version;
 use gc_fixtures::circuits::many_ands;
@@ -104,8 +105,9 @@ fn a_bank_that_is_given_on_is_used(rt: HostRuntime) -> Result<(), Fail> {
     let circuit = Circuit::read(alloc, text.as_bytes())?;
     let jobs = three_jobs(alloc, &circuit)?;
     let observer = Rounds::new(alloc)?;
-    let found = evaluated(&rt, alloc, &jobs, WORKERS, &observer);
-    assert!(rt; found == Some(one_after_another(alloc, &jobs)));
+    let given = together(&jobs).ok_or("the jobs are on one circuit")?;
+    let found = evaluate_jobs(&rt, alloc, given, WORKERS, &observer);
+    assert!(rt; found == one_after_another(alloc, given));
     assert!(rt; observer.most() >= 3 * u64::from(GATES));
     Ok(())
 }

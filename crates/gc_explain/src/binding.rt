@@ -6,7 +6,7 @@ use crate::sentence::{Explanation, alone, on_file};
 use gc_circuit::Circuit;
 use gc_disk::Reread;
 use gc_file::{Garbled, LabelFile, read_garbled, read_labels};
-use gc_job::{BindFault, Job};
+use gc_job::{BindFault, Job, JobFiles};
 use gc_order::{JobsOrder, Order};
 use std::alloc::{AllocError, Allocator};
 
@@ -62,7 +62,11 @@ impl<A: Allocator + Copy, F: Reread> Ended<'_, A, F> {
             let bytes = self.read_again(name.as_str())?;
             labels.push(read_labels(self.alloc, &bytes).ok()?).ok()?;
         }
-        Job::bind_by_digest(self.alloc, circuit, digest, garbled, &labels).err()
+        let files = JobFiles {
+            garbled,
+            labels: &labels,
+        };
+        Job::bind_by_digest(self.alloc, circuit, digest, files).err()
     }
 
     /// Explains that a garbled file is of another circuit.

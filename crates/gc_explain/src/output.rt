@@ -18,7 +18,7 @@ use gc_circuit::Circuit;
 use gc_command::words_of_line;
 use gc_disk::Reread;
 use gc_file::{Garbled, LabelFile, read_garbled, read_labels};
-use gc_job::{EvalFault, Job, evaluate};
+use gc_job::{EvalFault, Job, JobFiles, evaluate};
 use gc_order::{JobsOrder, Order};
 use std::alloc::{AllocError, Allocator};
 use std::str;
@@ -128,7 +128,11 @@ impl<A: Allocator + Copy, F: Reread> Ended<'_, A, F> {
         };
         let garbled = self.garbled_again(garbled)?;
         let labels = self.labels_again(labels)?;
-        let Ok(job) = Job::bind_by_digest(self.alloc, circuit, digest, garbled, &labels) else {
+        let files = JobFiles {
+            garbled,
+            labels: &labels,
+        };
+        let Ok(job) = Job::bind_by_digest(self.alloc, circuit, digest, files) else {
             return None;
         };
         match evaluate(self.alloc, &job) {

@@ -28,10 +28,14 @@ impl<'j, A: Allocator, C: Allocator> JobRef<'j, A, C> {
         ensures { IsDecodingOf self.now labels.now
             (result_map_both (λ bits. bits.items) (λ fault. fault) result) }
     {
-        let and_gates = self.circuit().and_count();
         let garbled = self.garbled();
+        let outputs = Outputs {
+            and_gates: self.circuit().and_count(),
+            entries: garbled.entries(),
+            labels,
+        };
         if garbled.version() == Version::Two {
-            if let Some(output) = first_unknown(and_gates, garbled.entries(), labels) {
+            if let Some(output) = outputs.first_unknown() {
                 return Err(EvalFault::UnknownOutputLabel { output });
             }
         }
@@ -59,52 +63,60 @@ pub fn decoded<A: Allocator + Copy>(
 /// The number of labels that are hashed at once.
 const AT_ONCE: usize = 8;
 
-/// The first output whose label the entries do not recognise. All labels are compared before that is decided, and no
-/// branch and no address depends on one. The number of AND gates is part of the tweaks.
-pub(crate) fn first_unknown(and_gates: u32, entries: &[EntryPair], labels: &[Label]) -> Option<u32>
-    requires { length labels.now < 2 ^ 32 }
-    ensures none { IfNone result
-        (AreRecognised and_gates entries.now labels.now (length labels.now)) }
-    ensures some { IfSome result (IsFirstUnknown and_gates entries.now labels.now) }
-{
-    let (mut first, mut known) = (0, 0);
-    while first < labels.len() {
-        let next = (first + AT_ONCE).min(labels.len());
-        known = known_until(and_gates, entries, labels, first, next, known);
-        first = next;
-    }
-    if known == labels.len() {
-        None
-    } else {
-        Some(known as u32)
-    }
+/// The labels of the output wires, and the entries that are to recognise them. The number of AND gates is part of the
+/// tweaks.
+#[derive(Drop)]
+struct Outputs<'j> {
+    and_gates: u32,
+    entries: &'j [EntryPair],
+    labels: &'j [Label],
 }
 
-/// How many labels before output `end` come before the first of them that the entries do not recognise, where `known`
-/// do so before output `first`. From one to the other there are at most as many as labels that are hashed at once.
-fn known_until(
-    and_gates: u32,
-    entries: &[EntryPair],
-    labels: &[Label],
-    first: usize,
-    end: usize,
-    mut known: usize,
-) -> usize
-    requires order { first ≤ end }
-    requires few { end ≤ first + AT_ONCE }
-    requires outputs { end ≤ length labels.now }
-    requires labels { length labels.now < 2 ^ 32 }
-    requires known { known ≤ first }
-    ensures known { IsKnownUntil and_gates entries.now labels.now first known
-        → IsKnownUntil and_gates entries.now labels.now end result }
-    ensures within { result ≤ end }
-{
-    let hashes = output_hashes(and_gates, first, &labels[first..end]);
-    for i in first..end {
-        let is_known = is_entry(entries, i, labels[i], hashes[i - first]);
-        known += usize::from((known == i) & is_known);
+impl<'j> Outputs<'j> {
+    /// The first output whose label the entries do not recognise. All labels are compared before that is decided, and
+    /// no branch and no address depends on one.
+    fn first_unknown(&self) -> Option<u32>
+        requires { length self.now.labels.now < 2 ^ 32 }
+        ensures none { IfNone result (AreRecognised self.now.and_gates self.now.entries.now
+            self.now.labels.now (length self.now.labels.now)) }
+        ensures some { IfSome result (IsFirstUnknown self.now.and_gates self.now.entries.now
+            self.now.labels.now) }
+    {
+        let (mut first, mut known) = (0, 0);
+        while first < self.labels.len() {
+            let next = (first + AT_ONCE).min(self.labels.len());
+            known = self.known_until(first, next, known);
+            first = next;
+        }
+        if known == self.labels.len() {
+            None
+        } else {
+            Some(known as u32)
+        }
     }
-    known
+
+    /// How many labels before output `end` come before the first of them that the entries do not recognise, where
+    /// `known` do so before output `first`. From one to the other there are at most as many as labels that are hashed
+    /// at once.
+    fn known_until(&self, first: usize, end: usize, mut known: usize) -> usize
+        requires order { first ≤ end }
+        requires few { end ≤ first + AT_ONCE }
+        requires outputs { end ≤ length self.now.labels.now }
+        requires labels { length self.now.labels.now < 2 ^ 32 }
+        requires known { known ≤ first }
+        ensures known { IsKnownUntil self.now.and_gates self.now.entries.now self.now.labels.now
+            first known → IsKnownUntil self.now.and_gates self.now.entries.now self.now.labels.now
+            end result }
+        ensures within { result ≤ end }
+    {
+        let labels = self.labels;
+        let hashes = output_hashes(self.and_gates, first, &labels[first..end]);
+        for i in first..end {
+            let is_known = is_entry(self.entries, i, labels[i], hashes[i - first]);
+            known += usize::from((known == i) & is_known);
+        }
+        known
+    }
 }
 
 /// The hash of each of these labels, which are those of the outputs from `first` on; the others are spare.

@@ -16,6 +16,13 @@ use std::alloc::{Allocator, Global};
 use std::marker::Model;
 use std::snapshot::Snapshot;
 
+/// The files of a job: a garbled file, and a label file for each input value, in any order.
+#[derive(Drop)]
+pub struct JobFiles<'f, A: Allocator = Global, B: Allocator = Global> {
+    pub garbled: Garbled<A>,
+    pub labels: &'f [LabelFile<B>],
+}
+
 /// What the evaluator of a garbled circuit is given: the circuit, what a garbled file of it holds, and a label for each
 /// input wire. The type keeps that there are as many row pairs, decode bits and input labels as the circuit has AND
 /// gates, output wires and input wires. Nothing else is known of them.
@@ -56,7 +63,11 @@ impl<'c, A: Allocator + Copy, C: Allocator> Job<'c, A, C> {
         ensures err { IfErr result (λ fault. fault ≢ BindFault.Memory
             → FirstBindFault circuit.now garbled files.now fault) }
     {
-        Job::bind_by_digest(alloc, circuit, &circuit.digest(), garbled, files)
+        let files = JobFiles {
+            garbled,
+            labels: files,
+        };
+        Job::bind_by_digest(alloc, circuit, &circuit.digest(), files)
     }
 
     /// The job as [`Job::bind`] returns it, for a caller that has the digest of the circuit's canonical text: it is not
@@ -66,15 +77,15 @@ impl<'c, A: Allocator + Copy, C: Allocator> Job<'c, A, C> {
         alloc: A,
         circuit: &'c Circuit<C>,
         digest: &[u8; 32],
-        garbled: Garbled<A>,
-        files: &[LabelFile<B>],
+        files: JobFiles<'_, A, B>,
     ) -> Result<Job<'c, A, C>, BindFault>
-        ensures ok { digest.now ≡ sha256 (canonical_text circuit.now)
-            → IfOk result (λ job. IsBound circuit.now garbled files.now job) }
+        ensures ok { digest.now ≡ sha256 (canonical_text circuit.now) → IfOk result
+            (λ job. IsBound circuit.now files.entry.garbled files.entry.labels.now job) }
         ensures err { digest.now ≡ sha256 (canonical_text circuit.now)
             → IfErr result (λ fault. fault ≢ BindFault.Memory
-            → FirstBindFault circuit.now garbled files.now fault) }
+            → FirstBindFault circuit.now files.entry.garbled files.entry.labels.now fault) }
     {
+        let JobFiles { garbled, labels } = files;
         if garbled.digest() != *digest {
             return Err(BindFault::OtherCircuit);
         }
@@ -82,7 +93,7 @@ impl<'c, A: Allocator + Copy, C: Allocator> Job<'c, A, C> {
             return Err(BindFault::OtherCounts);
         }
         circuit.law_lawful();
-        let inputs = bound_labels(alloc, circuit, files)?;
+        let inputs = bound_labels(alloc, circuit, labels)?;
         Ok(Job {
             circuit,
             detached: DetachedJob::new(garbled, inputs),

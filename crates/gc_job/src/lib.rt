@@ -24,7 +24,7 @@ pub use detached::{AsJob, DetachedJob, JobRef};
 pub use facts::Facts;
 pub use fault::{BindFault, EvalFault};
 pub use four::evaluate_four;
-pub use job::Job;
+pub use job::{Job, JobFiles};
 pub use jobs::{MAX_GROUP, evaluate_group, evaluate_rest, none_known};
 pub use laws::law_honest_files;
 pub use one_thread::{evaluate, output_labels};

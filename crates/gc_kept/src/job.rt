@@ -13,7 +13,7 @@ use crate::label_files::read_label_files;
 use crate::room::has_room;
 use gc_file::read_garbled;
 use gc_file::sizes::LABEL;
-use gc_job::{AsJob, DetachedJob, EvalFault, Job, JobRef};
+use gc_job::{AsJob, DetachedJob, EvalFault, Job, JobFiles, JobRef};
 use std::alloc::Global;
 use std::marker::Model;
 
@@ -34,9 +34,9 @@ impl Model for KeptJob {
     ghost invariant = { λ j. IsWhole (job_of j.circuit.netlist j.job.garbled j.job.inputs) };
 }
 
-/// The files of a job.
+/// The bytes of a job's files.
 #[derive(Clone, Copy)]
-pub struct JobFiles<'a> {
+pub struct JobBytes<'a> {
     /// The garbled file.
     pub garbled: &'a [u8],
     /// The label files, one after another.
@@ -48,17 +48,21 @@ pub struct JobFiles<'a> {
 impl KeptCircuit {
     /// Binds a garbled file and label files to a job, as [`Job::bind`] does. Nothing of them is trusted. It refuses a
     /// circuit without a digest (68).
-    pub fn bind(&self, alloc: Global, files: JobFiles<'_>) -> Result<KeptJob, KeptFault>
+    pub fn bind(&self, alloc: Global, bytes: JobBytes<'_>) -> Result<KeptJob, KeptFault>
         ensures digest { OnOk result (IsTrue self.now.has_digest) }
         ensures ok { IfOk result (IsBoundJob self.now.netlist
-            files.entry.garbled.now files.entry.labels.now files.entry.lengths.now) }
+            bytes.entry.garbled.now bytes.entry.labels.now bytes.entry.lengths.now) }
         ensures fault { IfErr result (HasBindingFault self.now
-            files.entry.garbled.now files.entry.labels.now files.entry.lengths.now) }
+            bytes.entry.garbled.now bytes.entry.labels.now bytes.entry.lengths.now) }
     {
         let digest = self.digest()?;
-        let garbled = read_garbled(alloc, files.garbled)?;
-        let labels = read_label_files(alloc, files.labels, files.lengths)?;
-        let job = Job::bind_by_digest(alloc, self.circuit(), digest, garbled, &labels)?;
+        let garbled = read_garbled(alloc, bytes.garbled)?;
+        let labels = read_label_files(alloc, bytes.labels, bytes.lengths)?;
+        let files = JobFiles {
+            garbled,
+            labels: &labels,
+        };
+        let job = Job::bind_by_digest(alloc, self.circuit(), digest, files)?;
         Ok(KeptJob {
             job: job.detach(),
             circuit: self.again()?,

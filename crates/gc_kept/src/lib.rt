@@ -47,7 +47,7 @@ pub use garbling::KeptGarbling;
 pub use garblings::write_many;
 pub use given::StartBytes;
 pub use held::Held;
-pub use job::{JobFiles, KeptJob};
+pub use job::{JobBytes, KeptJob};
 pub use jobs::evaluate_list;
 pub use many::Pace;
 pub use version::version_of;

@@ -21,7 +21,7 @@ groups_left walk = 4 * walk.left + walk.waiting
 abbrev pub IsWithin : ℕ → GateGroup → Type 0
 IsWithin gates (One a) = a < gates
 IsWithin gates (Two a b) = (a < gates) × (b < gates)
-IsWithin gates (Four a b c d) = (a < gates) × (b < gates) × (c < gates) × (d < gates)
+IsWithin gates (Four g) = (g.a < gates) × (g.b < gates) × (g.c < gates) × (g.d < gates)
 
 -- After this result the worker knows the gate to be done.
 abbrev pub is_learnt : Answer → Bool

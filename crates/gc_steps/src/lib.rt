@@ -16,6 +16,7 @@ mod two;
 mod walk;
 
 pub use answer::Answer;
+pub use gc_half::Four;
 pub use jobs::Jobs;
 pub use round::{Prepared, Round};
 pub use walk::{GateGroup, Walk};

@@ -11,7 +11,7 @@ ghost use Rattle.gc_steps.specs.Views.{AreReadBy, Reads, Ran, IsIdle, Got, Lacks
 use crate::answer::Answer;
 use crate::jobs::Jobs;
 use crate::round::{Prepared, Round};
-use gc_gates::{Frame, Place, load_high, load_low, load_state};
+use gc_gates::{Frame, GateAt, Place, load_high, load_low, load_state};
 use gc_label::Label;
 use gc_rounds::stamped;
 use gc_workers::{DONE, IN_HAND};
@@ -35,8 +35,12 @@ impl<'w, 'c, J: Jobs, R: Frame<J>, B: Allocator, A: Allocator, C: Allocator> Rou
         ensures ran { Ran place.old.me.0 place.new.me.0 place.old.me.0.inner.made 2 }
         ensures right { result ≡ active self.now.job.now (set_of self.now.job.now gate) }
     {
-        let low = load_low(self.words, place, self.number, gate);
-        let high = load_high(self.words, place, self.number, gate);
+        let at = GateAt {
+            round: self.number,
+            gate,
+        };
+        let low = load_low(self.words, place, at);
+        let high = load_high(self.words, place, at);
         Label::from_halves(low, high)
     }
 
@@ -61,7 +65,11 @@ impl<'w, 'c, J: Jobs, R: Frame<J>, B: Allocator, A: Allocator, C: Allocator> Rou
         let Some(gate) = self.wiring.setter(wire) else {
             return None;
         };
-        if load_state(self.words, place, self.number, gate) == stamped(self.number, DONE) {
+        let at = GateAt {
+            round: self.number,
+            gate,
+        };
+        if load_state(self.words, place, at) == stamped(self.number, DONE) {
             Some(self.load_label(place, gate))
         } else {
             None
@@ -136,7 +144,11 @@ impl<'w, 'c, J: Jobs, R: Frame<J>, B: Allocator, A: Allocator, C: Allocator> Rou
             × ReadsMade self.now.job.now self.now.number gate place.old.me.0)
             (AnswersAlone self.now.job.now self.now.number gate place.old.me.0) }
     {
-        let free = load_state(self.words, place, self.number, gate);
+        let at = GateAt {
+            round: self.number,
+            gate,
+        };
+        let free = load_state(self.words, place, at);
         if free == stamped(self.number, DONE) {
             return Err(Answer::Done(self.load_label(place, gate)));
         }

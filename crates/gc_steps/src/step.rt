@@ -15,7 +15,7 @@ ghost use Rattle.gc_steps.specs.Views.{IsMadeNow, IsIdle, Answers, IsReady, IsAl
 use crate::answer::Answer;
 use crate::jobs::Jobs;
 use crate::round::{Prepared, Round};
-use gc_gates::{Frame, Place, claim, store_done, store_high, store_low};
+use gc_gates::{Frame, GateAt, Place, claim, store_done, store_high, store_low};
 use gc_label::Label;
 use gc_rounds::stamped;
 use gc_workers::{DONE, IN_HAND};
@@ -46,7 +46,11 @@ impl<'w, 'c, J: Jobs, R: Frame<J>, B: Allocator, A: Allocator, C: Allocator> Rou
         ensures alone { IsAlone place.old.me.0
             → pairs self.now.number gate place.old.me.0.inner.made ≡ 0 → IfSome result (λ _. ⊥) }
     {
-        let found = claim(self.words, place, self.number, gate, free);
+        let at = GateAt {
+            round: self.number,
+            gate,
+        };
+        let found = claim(self.words, place, at, free);
         if found == stamped(self.number, DONE) {
             return Some(Answer::Done(self.load_label(place, gate)));
         }
@@ -69,30 +73,34 @@ impl<'w, 'c, J: Jobs, R: Frame<J>, B: Allocator, A: Allocator, C: Allocator> Rou
             self.now.number gate 2 (R.layout.at self.now.number gate + 2) (high_half label))
             self.now.number gate }
     {
+        let at = GateAt {
+            round: self.number,
+            gate,
+        };
         let (low, high) = label.halves();
-        store_low(self.words, place, self.number, gate, low);
-        store_high(self.words, place, self.number, gate, high);
-        store_done(self.words, place, self.number, gate);
+        store_low(self.words, place, at, low);
+        store_high(self.words, place, at, high);
+        store_done(self.words, place, at);
     }
 
-    /// Makes a gate whose label is computed, where no seat has it since its state word was found free.
-    pub(crate) fn publish(&self, place: &mut Place<J>, gate: u32, free: u64, label: Label) -> Answer
+    /// Makes a gate that is prepared and whose label is computed, where no seat has it by now.
+    pub(crate) fn publish(&self, place: &mut Place<J>, ready: &Prepared, label: Label) -> Answer
         requires place { IsPlaceAt R.layout J.gates self.now.words.now.table_id
-            self.now.words.now.key place.old self.now.number gate }
+            self.now.words.now.key place.old self.now.number ready.now.gate }
         requires empty { IsIdle place.old.me.0 }
-        requires free { (0 < looked self.now.number gate free place.old.me.0.inner.looks)
-            × (free ≤ stamp self.now.number FREE) }
-        requires right { label ≡ active self.now.job.now (set_of self.now.job.now gate) }
+        requires free { (0 < looked self.now.number ready.now.gate ready.now.free
+            place.old.me.0.inner.looks) × (ready.now.free ≤ stamp self.now.number FREE) }
+        requires right { label ≡ active self.now.job.now (set_of self.now.job.now ready.now.gate) }
         ensures same { IsSamePlace place.old place.new }
-        ensures answer { Answers R.layout self.now.job.now self.now.number gate 4
+        ensures answer { Answers R.layout self.now.job.now self.now.number ready.now.gate 4
             place.old.me.0 place.new.me.0 result }
         ensures alone { IsAlone place.old.me.0
-            → pairs self.now.number gate place.old.me.0.inner.made ≡ 0 → IsMadeNow result }
+            → pairs self.now.number ready.now.gate place.old.me.0.inner.made ≡ 0 → IsMadeNow result }
     {
-        if let Some(answer) = self.take(place, gate, free) {
+        if let Some(answer) = self.take(place, ready.gate, ready.free) {
             return answer;
         }
-        self.put(place, gate, label);
+        self.put(place, ready.gate, label);
         Answer::Made(label)
     }
 

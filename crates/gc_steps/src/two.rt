@@ -73,10 +73,9 @@ impl<'w, 'c, J: Jobs, R: Frame<J>, B: Allocator, A: Allocator, C: Allocator> Rou
             → IsMadeNow result.1) }
     {
         let other = second;
-        let (gate, free) = (second.gate, second.free);
         let (answer, label) = self.make_with_one(place, first, second);
         match label {
-            Some(label) => (answer, self.publish(place, gate, free, label)),
+            Some(label) => (answer, self.publish(place, &other, label)),
             None => (answer, self.make(place, other)),
         }
     }

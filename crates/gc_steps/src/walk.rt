@@ -5,20 +5,20 @@ ghost use Rattle.gc_steps.specs.Walks.{IsWithin, groups_left, is_learnt};
 
 use crate::answer::Answer;
 use gc_circuit::{Circuit, Gate};
-use gc_half::WaitingGates;
+use gc_half::{Four, WaitingGates};
 use gc_workers::{Gatehouse, NumberSet};
 use std::alloc::{AllocError, Allocator, Global};
 use std::marker::Model;
 
 /// Gates to be stepped at once, by their numbers in the file.
-#[derive(Clone, Copy, PartialEq, Eq, Debug)]
+#[derive(Clone, Copy)]
 pub enum GateGroup {
     /// One gate, of any kind.
     One(u32),
     /// Two AND gates, in the order of the walk.
     Two(u32, u32),
     /// Four AND gates, in the order of the walk.
-    Four(u32, u32, u32, u32),
+    Four(Four<u32>),
 }
 
 impl GateGroup {
@@ -30,7 +30,7 @@ impl GateGroup {
                 observer.before(worker, a);
                 observer.before(worker, b);
             }
-            GateGroup::Four(a, b, c, d) => {
+            GateGroup::Four(Four { a, b, c, d }) => {
                 observer.before(worker, a);
                 observer.before(worker, b);
                 observer.before(worker, c);
@@ -149,7 +149,12 @@ impl<B: Allocator> Walk<B> {
         match (self.waiting.first, self.waiting.second, self.waiting.third) {
             (Some(first), Some(second), Some(third)) => {
                 self.waiting = WaitingGates::new();
-                Some(GateGroup::Four(first.gate, second.gate, third.gate, number))
+                Some(GateGroup::Four(Four {
+                    a: first.gate,
+                    b: second.gate,
+                    c: third.gate,
+                    d: number,
+                }))
             }
             _ => {
                 self.waiting.push(number, gate.set);

@@ -20,8 +20,9 @@ mod tally;
 mod task;
 
 pub use batch::{BATCH_SIZE, Batch};
+pub use partial::Opening;
 pub use refusal::Refused;
-pub use shared::SharedStore;
+pub use shared::{Claimant, SharedStore};
 pub use store::Store;
 pub use tally::{Tally, TallyMissing};
 pub use task::{Sealed, Task};

@@ -22,6 +22,14 @@ use std::marker::Model;
 use std::thread;
 use std::thread::Threads;
 
+/// An opening by many threads: of a copy of this circuit under this seed, by up to this many.
+#[derive(Drop)]
+pub struct Opening<'c, C: Allocator = Global> {
+    pub circuit: &'c Circuit<C>,
+    pub seed: Seed,
+    pub threads: u32,
+}
+
 /// From this many threads on, the four parts of an opening go side by side.
 const FOUR: u32 = 4;
 
@@ -116,17 +124,15 @@ impl<A: Allocator + Copy> PartialGarbling<A> {
 }
 
 impl<A: Allocator + Copy + Send + Sync> PartialGarbling<A> {
-    /// A copy of this circuit and this seed with every gate free, by up to this many threads, where they can
-    /// be started.
+    /// A copy of the circuit and the seed with every gate free, where the threads can be started.
     pub(crate) fn open_by<C: Allocator + Sync, R: Threads + Sync>(
         rt: &R,
         alloc: A,
-        circuit: &Circuit<C>,
-        seed: Seed,
-        threads: u32,
+        opening: &Opening<'_, C>,
     ) -> Result<PartialGarbling<A>, Memory>
-        ensures { IfOk result (λ s. s ≡ opened circuit.now seed) }
+        ensures { IfOk result (λ s. s ≡ opened opening.now.circuit.now opening.now.seed) }
     {
+        let (circuit, seed, threads) = (opening.circuit, opening.seed, opening.threads);
         let (linked, tables) = thread::join(
             rt,
             || -> Result<LinkedCircuit<A>, Memory>

@@ -41,6 +41,13 @@ pub struct SharedStore<L: Ledger, A: Allocator = Global> {
     moved: Condvar,
 }
 
+/// One who hands in and claims: its tally, and the batch that its new tasks go into.
+#[derive(Drop)]
+pub struct Claimant<L: Ledger> {
+    pub tally: Tally<L>,
+    pub batch: Batch,
+}
+
 /// What a thread that wants a task finds.
 enum Finding {
     /// A task.
@@ -181,8 +188,9 @@ impl<L: Ledger, A: Allocator> SharedStore<L, A> {
         self.locked.lock(rt)
     }
 
-    /// Wakes threads that sleep because no task is ready.
-    fn wake(&self, woken: Woken) {
+    /// Gives the lock back, and wakes threads that sleep because no task is ready.
+    fn leave(&self, locked: MutexGuard<'_, CachePadded<LockedStore<L, A>>>, woken: Woken) {
+        drop(locked);
         match woken {
             Woken::One => self.moved.notify_one(),
             Woken::All => self.moved.notify_all(),
@@ -220,7 +228,10 @@ impl<L: Ledger, A: Allocator> SharedStore<L, A> {
     ) -> Result<bool, Refused>
         ensures { HandsIn sealed tally.old batch.old result tally.new batch.new }
     {
-        self.hand_in_all(rt, &[sealed], tally, batch)
+        let mut locked = self.enter(rt);
+        let (handed_in, woken) = locked.hand_in_all(&[sealed], tally, batch);
+        self.leave(locked, woken);
+        handed_in
     }
 
     /// Takes sealed tasks back one after another, each as [`SharedStore::hand_in`] does, and then claims gates into the
@@ -232,15 +243,15 @@ impl<L: Ledger, A: Allocator> SharedStore<L, A> {
         &self,
         rt: &impl Wait,
         sealed: &[Sealed],
-        tally: &mut Tally<L>,
-        batch: &mut Batch,
+        claimant: &mut Claimant<L>,
     ) -> Result<bool, Refused>
-        ensures { HandsInAll sealed.now tally.old batch.old result tally.new batch.new }
+        ensures { HandsInAll sealed.now claimant.old.tally claimant.old.batch result
+            claimant.new.tally claimant.new.batch }
     {
+        let Claimant { tally, batch } = claimant;
         let mut locked = self.enter(rt);
         let (handed_in, woken) = locked.hand_in_all(sealed, tally, batch);
-        drop(locked);
-        self.wake(woken);
+        self.leave(locked, woken);
         handed_in
     }
 

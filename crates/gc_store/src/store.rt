@@ -8,7 +8,7 @@ ghost use Rattle.gc_workers.specs.declared.TheConstants.{MAX_WORKERS};
 ghost use Rattle.gc_store.specs.Step.{Claims, ClaimsSome, Finishes, Deals, Settles, Reopens};
 
 use crate::batch::Batch;
-use crate::partial::PartialGarbling;
+use crate::partial::{Opening, PartialGarbling};
 use crate::refusal::Refused;
 use crate::tally::{Tally, TallyMissing, add_up};
 use crate::task::{Sealed, Task};
@@ -86,20 +86,18 @@ impl<L: Ledger, A: Allocator + Copy> Store<L, A> {
 }
 
 impl<L: Ledger, A: Allocator + Copy + Send + Sync> Store<L, A> {
-    /// A store of a copy of this circuit, else as [`Store::open`] opens one. It is opened by up to this many threads,
-    /// where they can be started: by two, or by four where four are asked for.
+    /// A store of a copy of the circuit, else as [`Store::open`] opens one. It is opened by threads, where they can be
+    /// started: by two, or by four where four are asked for.
     pub fn open_by<C: Allocator + Sync, R: Threads + Sync>(
         rt: &R,
         alloc: A,
         ledger: Blank,
-        circuit: &Circuit<C>,
-        seed: Seed,
-        threads: u32,
+        opening: &Opening<'_, C>,
     ) -> Result<Store<L, A>, Memory>
         requires { IsForStore L.name L.parts ledger }
-        ensures { IfOk result (IsOpened circuit.now seed) }
+        ensures { IfOk result (IsOpened opening.now.circuit.now opening.now.seed) }
     {
-        let progress = PartialGarbling::open_by(rt, alloc, circuit, seed, threads)?;
+        let progress = PartialGarbling::open_by(rt, alloc, opening)?;
         Ok(Store::begin(ledger, progress))
     }
 }

@@ -8,7 +8,7 @@ use gc_fixtures::compare::equal;
 use gc_fixtures::files::zero_seed;
 use gc_fixtures::refusing::Refusing;
 use gc_label::Seed;
-use gc_store::{Batch, Refused, Sealed, SharedStore, Store, Tally, Task};
+use gc_store::{Batch, Claimant, Refused, Sealed, SharedStore, Store, Tally, Task};
 use std::alloc::{Allocator, Global};
 use std::marker::Brand;
 use std::sync::Wait;
@@ -128,13 +128,19 @@ fn takes_back<L: Ledger>(rt: &impl Wait, alloc: Global, ledger: Blank) -> Result
     requires { IsForStore L.name L.parts ledger }
 {
     let mut store = open::<L, Global>(alloc, ledger).ok_or("there is memory")?;
-    let mut tally = store.tally().ok_or("no tally was dealt")?;
+    let mut claimant = Claimant {
+        tally: store.tally().ok_or("no tally was dealt")?,
+        batch: Batch::new(),
+    };
     let shared = SharedStore::new(store);
-    let mut batch = Batch::new();
     let zero = Sealed::make(shared.take(rt).ok_or("gate 0 is ready")?);
     let one = Sealed::make(shared.take(rt).ok_or("gate 1 is ready")?);
-    let twice = shared.hand_in_all(rt, &[zero, zero], &mut tally, &mut batch);
+    let twice = shared.hand_in_all(rt, &[zero, zero], &mut claimant);
     shared.stop(rt);
+    let Claimant {
+        mut tally,
+        mut batch,
+    } = claimant;
     let stopped = shared.hand_in(rt, one, &mut tally, &mut batch);
     equal(
         (twice, stopped),

@@ -14,7 +14,7 @@ use crate::workers::{Workers, open_workers};
 use gc_circuit::{Circuit, Memory};
 use gc_half::{Garbling, garble_one_thread};
 use gc_label::Seed;
-use gc_store::{SharedStore, Store};
+use gc_store::{Opening, SharedStore, Store};
 use gc_workers::{Gatehouse, MAX_WORKERS, Way, report_all, way_of};
 use std::alloc::Allocator;
 use std::marker::Brand;
@@ -92,7 +92,12 @@ fn garble_together<
     ensures { IfOk result (IsGarbled circuit.now seed.now) }
 {
     let alloc = crew.alloc;
-    let store = Store::<L, A>::open_by(crew.rt, alloc, ledger, circuit, *seed, crew.workers)?;
+    let opening = Opening {
+        circuit,
+        seed: *seed,
+        threads: crew.workers,
+    };
+    let store = Store::<L, A>::open_by(crew.rt, alloc, ledger, &opening)?;
     let store = work_together(crew, store, circuit.gates().min(POOL_CAPACITY))?;
     match garbling_of(store, circuit, seed) {
         Some(garbling) => Ok(garbling),
@@ -153,7 +158,7 @@ fn work_together<
     run_all(&shared, workers.as_mut_slice());
     let mut store = store.into_store();
     if let Some(mut last) = workers.pop() {
-        sweep(&mut store, &mut last.tally, crew.observer);
+        sweep(&mut store, &mut last.claimant.tally, crew.observer);
     }
     Ok(store)
 }

@@ -5,7 +5,7 @@ ghost use Rattle.gc_work.specs.Places.{IsReady};
 
 use crate::pool::{NoRoom, Owner, TaskPool};
 use crate::steal::{PlacedThief, steal_any};
-use gc_store::{BATCH_SIZE, Batch, Sealed, SharedStore, Tally, Task};
+use gc_store::{BATCH_SIZE, Claimant, Sealed, SharedStore, Task};
 use gc_workers::Gatehouse;
 use std::alloc::Allocator;
 use std::sync::Wait;
@@ -20,16 +20,15 @@ pub(crate) struct Shared<'a, L: Ledger, A: Allocator, H, R> {
     pub observer: &'a H,
 }
 
-/// What a worker has of its own: the place of its pool among all pools, its number, its tally, its pool's owner, a
-/// thief at each other pool, the tasks that it has claimed, and room for those that it has sealed and not handed in.
+/// What a worker has of its own: the place of its pool among all pools, its number, its tally with the tasks that it has
+/// claimed, its pool's owner, a thief at each other pool, and room for tasks that it has sealed and not handed in.
 #[derive(Drop)]
 pub(crate) struct Worker<L: Ledger, A: Allocator> {
     pub place: usize,
     pub number: u32,
-    pub tally: Tally<L>,
+    pub claimant: Claimant<L>,
     pub owner: Owner<A>,
     pub thieves: Vec<PlacedThief<A>, A>,
-    pub batch: Batch,
     pub sealed: Vec<Sealed, A>,
 }
 
@@ -45,15 +44,15 @@ fn share<L: Ledger, A: Allocator>(pool: &TaskPool<A>, worker: &mut Worker<L, A>)
     ensures thieves { worker.new.thieves ≡ worker.old.thieves }
 {
     for _i in 0..BATCH_SIZE {
-        if worker.batch.len() <= 1 {
+        if worker.claimant.batch.len() <= 1 {
             break;
         }
-        let task = worker.batch.pop()?;
+        let task = worker.claimant.batch.pop()?;
         if let Err(NoRoom { task }) = pool.push(&mut worker.owner, task) {
             return Some(task);
         }
     }
-    worker.batch.pop()
+    worker.claimant.batch.pop()
 }
 
 /// A task that the worker has: one that it has claimed, or of its own pool.
@@ -63,7 +62,7 @@ fn own_task<L: Ledger, A: Allocator>(pool: &TaskPool<A>, worker: &mut Worker<L, 
     ensures pool { worker.new.owner.pool ≡ worker.old.owner.pool }
     ensures thieves { worker.new.thieves ≡ worker.old.thieves }
 {
-    match worker.batch.pop() {
+    match worker.claimant.batch.pop() {
         Some(task) => Some(task),
         None => pool.pop(&mut worker.owner),
     }
@@ -176,7 +175,7 @@ pub(crate) fn work<L: Ledger, A: Allocator, H: Gatehouse, R: Wait>(
             return;
         }
         let sealed = worker.sealed.as_slice();
-        let handed_in = store.hand_in_all(rt, sealed, &mut worker.tally, &mut worker.batch);
+        let handed_in = store.hand_in_all(rt, sealed, &mut worker.claimant);
         if handed_in.is_err() {
             store.stop(rt);
             return;

@@ -8,7 +8,7 @@ use crate::pool::{Owner, TaskPool, Thief};
 use crate::steal::PlacedThief;
 use crate::worker::{MAX_SEALED, Worker};
 use gc_circuit::Memory;
-use gc_store::{Batch, Store};
+use gc_store::{Batch, Claimant, Store};
 use std::alloc::Allocator;
 use std::sync::ledger::Ledger;
 
@@ -129,10 +129,12 @@ fn workers_of<L: Ledger, A: Allocator + Copy>(
         workers.push(Worker {
             place,
             number,
-            tally,
+            claimant: Claimant {
+                tally,
+                batch: Batch::new(),
+            },
             owner,
             thieves,
-            batch: Batch::new(),
             sealed,
         })?;
     }

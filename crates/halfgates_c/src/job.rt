@@ -13,14 +13,14 @@ use crate::code::{NULL_POINTER, code_of};
 use crate::handle::{Handle, on_held};
 use crate::null::is_null;
 use crate::slot::Slot;
-use gc_kept::{Held, JobFiles, KeptCircuit, KeptFault};
+use gc_kept::{Held, JobBytes, KeptCircuit, KeptFault};
 use std::alloc::Global;
 
 /// Binds files to a job of a circuit, and hands it out.
 fn bind(
     alloc: Global,
     circuit: &KeptCircuit,
-    files: JobFiles<'_>,
+    files: JobBytes<'_>,
     slot: &mut Slot,
 ) -> Result<(), KeptFault>
     ensures digest { OnOk result (IsTrue circuit.now.has_digest) }
@@ -54,7 +54,7 @@ pub extern "C" fn halfgates_job_bind(
     if is_null(job) {
         return NULL_POINTER;
     }
-    let files = JobFiles {
+    let files = JobBytes {
         garbled,
         labels,
         lengths,

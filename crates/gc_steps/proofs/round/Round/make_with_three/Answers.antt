@@ -5,4 +5,4 @@ pub returns-clause-answer : goal.returns-clause-answer
 returns-clause-answer g c =
     made_answer _ _ _ _ _ g.R.Frame.layout c.args.self.now.job.now _ _ c.requires.empty.0
     c.in_default.ensures.none c.put.ensures.view
-    (rw c.read_gate.ensures at c.labels_of_four-labels.ensures.a)
+    c.labels_of_four-labels.ensures.a
