@@ -91,21 +91,25 @@ struct Cuts<'p> {
     rest: &'p [u8],
 }
 
-/// Cuts a piece into what each part lacks.
-fn cut_up(
-    piece: &[u8],
+/// How many bytes each part lacks.
+#[derive(Clone, Copy)]
+struct Lacking {
     rows: usize,
     decode_bytes: usize,
     entries: usize,
     trailer: usize,
-) -> Cuts<'_>
-    ensures { IsCutUp rows decode_bytes entries trailer piece.now result.rows.now
+}
+
+/// Cuts a piece into what each part lacks.
+fn cut_up(piece: &[u8], lacking: Lacking) -> Cuts<'_>
+    ensures { IsCutUp lacking.rows lacking.decode_bytes lacking.entries lacking.trailer
+        piece.now result.rows.now
         result.decode_bytes.now result.entries.now result.trailer.now result.rest.now }
 {
-    let (rows, rest) = cut(piece, rows);
-    let (decode_bytes, rest) = cut(rest, decode_bytes);
-    let (entries, rest) = cut(rest, entries);
-    let (trailer, rest) = cut(rest, trailer);
+    let (rows, rest) = cut(piece, lacking.rows);
+    let (decode_bytes, rest) = cut(rest, lacking.decode_bytes);
+    let (entries, rest) = cut(rest, lacking.entries);
+    let (trailer, rest) = cut(rest, lacking.trailer);
     Cuts {
         rows,
         decode_bytes,
@@ -269,13 +273,13 @@ impl<A: Allocator + Copy> Body<A> {
             mut hasher,
         } = self;
         let counts = Counts::of(header.as_slice());
-        let cuts = cut_up(
-            piece,
-            PAIR * counts.rows - rows.len(),
-            counts.decode_bytes - decode_bytes.len(),
-            PAIR * counts.entries - entries.len(),
-            TRAILER - trailer.len(),
-        );
+        let lacking = Lacking {
+            rows: PAIR * counts.rows - rows.len(),
+            decode_bytes: counts.decode_bytes - decode_bytes.len(),
+            entries: PAIR * counts.entries - entries.len(),
+            trailer: TRAILER - trailer.len(),
+        };
+        let cuts = cut_up(piece, lacking);
         rows.add(cuts.rows, counts.rows)?;
         add_decode_bytes(&mut decode_bytes, cuts.decode_bytes, counts)?;
         entries.add(cuts.entries, counts.entries)?;

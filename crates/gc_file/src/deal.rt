@@ -18,51 +18,57 @@ use std::alloc::Allocator;
 /// The number of labels that are made at once.
 const LABELS: usize = 64;
 
+/// Bits of the input wires from `first` on, and the seed whose labels stand for them.
+#[derive(Clone, Copy)]
+struct InputBits<'a> {
+    seed: &'a Seed,
+    first: u32,
+    bits: &'a [bool],
+}
+
 impl FileWriter<Unobserved> {
-    /// Writes the labels that stand for these bits on the input wires from the first one on. There are at most as many
-    /// bits as labels that are made at once.
+    /// Writes the labels that stand for these bits. There are at most as many bits as labels that are made at once.
     fn write_some_labels<S: Sink>(
         &mut self,
         sink: &mut S,
-        seed: &Seed,
-        first: u32,
-        bits: &[bool],
+        of: &InputBits<'_>,
     ) -> Result<(), WriteFault>
-        requires few { length bits.now ≤ LABELS }
-        requires wires { first + LABELS ≤ 2 ^ 32 }
+        requires few { length of.now.bits.now ≤ LABELS }
+        requires wires { of.now.first + LABELS ≤ 2 ^ 32 }
         ensures bytes { Proceeds Unseen self.old self.new
             (S.taken sink.old) (S.taken sink.new) result
-            (flat_map bytes_of_label (encoded_from first seed.now bits.now)) }
+            (flat_map bytes_of_label
+            (encoded_from of.now.first of.now.seed.now of.now.bits.now)) }
         ensures counted { CountsFailure result (S.failures sink.old) (S.failures sink.new) }
     {
         let mut zero_labels = [Label::ZERO; LABELS];
-        fill_input_labels(seed, first, &mut zero_labels);
-        let offset = offset(seed);
-        for (i, bit) in bits.iter().enumerate() {
+        fill_input_labels(of.seed, of.first, &mut zero_labels);
+        let offset = offset(of.seed);
+        for (i, bit) in of.bits.iter().enumerate() {
             let label = encode(offset, zero_labels[i], *bit);
             self.write(sink, &label.to_bytes())?;
         }
         Ok(())
     }
 
-    /// Writes the labels that stand for these bits on the input wires from the first one on.
-    fn write_labels<S: Sink>(
-        &mut self,
-        sink: &mut S,
-        seed: &Seed,
-        first: u32,
-        bits: &[bool],
-    ) -> Result<(), WriteFault>
-        requires { first + length bits.now + LABELS ≤ 2 ^ 32 }
+    /// Writes the labels that stand for these bits.
+    fn write_labels<S: Sink>(&mut self, sink: &mut S, of: &InputBits<'_>) -> Result<(), WriteFault>
+        requires { of.now.first + length of.now.bits.now + LABELS ≤ 2 ^ 32 }
         ensures bytes { Proceeds Unseen self.old self.new
             (S.taken sink.old) (S.taken sink.new) result
-            (flat_map bytes_of_label (encoded_from first seed.now bits.now)) }
+            (flat_map bytes_of_label
+            (encoded_from of.now.first of.now.seed.now of.now.bits.now)) }
         ensures counted { CountsFailure result (S.failures sink.old) (S.failures sink.new) }
     {
         let mut done = 0;
-        while done < bits.len() {
-            let next = (done + LABELS).min(bits.len());
-            self.write_some_labels(sink, seed, first + done as u32, &bits[done..next])?;
+        while done < of.bits.len() {
+            let next = (done + LABELS).min(of.bits.len());
+            let some = InputBits {
+                seed: of.seed,
+                first: of.first + done as u32,
+                bits: &of.bits[done..next],
+            };
+            self.write_some_labels(sink, &some)?;
             done = next;
         }
         Ok(())
@@ -109,6 +115,6 @@ pub fn write_labels<S: Sink, A: Allocator>(
     let first = first_wire(circuit, index as usize);
     let mut file = FileWriter::new(Unobserved);
     file.write(sink, label_header(index, bits.len() as u32).as_slice())?;
-    file.write_labels(sink, seed, first, bits)?;
+    file.write_labels(sink, &InputBits { seed, first, bits })?;
     file.end(sink)
 }

@@ -238,8 +238,9 @@ fn named(entries: (Label, Label)) -> EntryPair
     }
 }
 
-/// Writes a garbled file to the sink, with its trailer or without, and returns how many bytes it wrote. The caller ensures
-/// that the digest is the circuit's and that the garbling fits the circuit. It doesn't allocate but what the sink takes.
+/// Writes a garbled file to the sink, with its trailer or without, and returns how many bytes it wrote. The caller
+/// ensures that the digest is the circuit's and that the garbling fits the circuit. It doesn't allocate but what the
+/// sink takes.
 ///
 /// Where the sink fails, it has taken the first `sent` of these bytes, and no others.
 pub fn write_garbled_file<S: Sink, A: Allocator, B: Allocator>(

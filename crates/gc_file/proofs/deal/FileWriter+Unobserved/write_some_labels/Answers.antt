@@ -7,12 +7,12 @@ use Rattle.gc_file.proofs.deal.FileWriter+Unobserved.write_some_labels.Goals as 
 
 -- What is written is the label that encodes the next bit.
 here : (g : Over) (c : After-to_bytes g) →
-    let bits = c.args.bits.now in let first = c.args.first in
-    label_bytes c.args.seed.now first (take c.loop-i.i bits) ++ c.to_bytes.result
-    ≡ label_bytes c.args.seed.now first (take (c.loop-i.i + 1) bits)
+    let bits = c.args.of.now.bits.now in let first = c.args.of.now.first in
+    label_bytes c.args.of.now.seed.now first (take c.loop-i.i bits) ++ c.to_bytes.result
+    ≡ label_bytes c.args.of.now.seed.now first (take (c.loop-i.i + 1) bits)
 here g c =
-    let seed = c.args.seed.now in let first = c.args.first in let i = c.loop-i.i in
-    let bits = c.args.bits.now in
+    let seed = c.args.of.now.seed.now in let first = c.args.of.now.first in let i = c.loop-i.i in
+    let bits = c.args.of.now.bits.now in
     rw (
       c.to_bytes.ensures.bytes,
       c.encode-label.ensures,
@@ -27,7 +27,7 @@ pub returns-in_err-write-clause-bytes : goal.returns-in_err-write-clause-bytes
 returns-in_err-write-clause-bytes g c =
     Wrote-exit c.from_residual.result _ c.from_residual.ensures.1
     (here g (goal.at.returns-in_err-write-clause-bytes g c).After-to_bytes)
-    (label_bytes-rest c.args.seed.now c.args.first c.args.bits.now (c.loop-i.i + 1) (omega arith))
+    (label_bytes-rest c.args.of.now.seed.now c.args.of.now.first c.args.of.now.bits.now (c.loop-i.i + 1) (omega arith))
     c.loop-i.invariant c.in_err-write.ensures.bytes
 
 pub loop-i-preserved : goal.loop-i-preserved
@@ -37,4 +37,4 @@ loop-i-preserved g c =
 
 pub returns-clause-bytes : goal.returns-clause-bytes
 returns-clause-bytes g c =
-    rw (take_all c.loop-i.i c.args.bits.now (omega arith)) at c.loop-i.invariant.bytes
+    rw (take_all c.loop-i.i c.args.of.now.bits.now (omega arith)) at c.loop-i.invariant.bytes

@@ -7,4 +7,4 @@ abbrev pub invariant-loop-i : goal.invariant-loop-i
 invariant-loop-i g l =
     Wrote Unseen l.initial.self l.self (g.S.Sink.taken l.initial.sink) (g.S.Sink.taken l.sink)
     (g.S.Sink.failures l.initial.sink) (g.S.Sink.failures l.sink)
-    (label_bytes l.seed l.first (take l.i l.bits))
+    (label_bytes l.of.seed.now l.of.first (take l.i l.of.bits.now))

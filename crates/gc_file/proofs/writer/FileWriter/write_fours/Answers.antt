@@ -14,8 +14,9 @@ returns-in_err-write_pairs-clause-bytes g c =
 
 pub loop-k-preserved : goal.loop-k-preserved
 loop-k-preserved g c =
+    let o = c.args.of.now.offset in let garbling = c.args.of.now.garbling.now in
     let k = c.loop-k.k in
-    Wrote-more (entries-more c.args.of.now.offset c.args.of.now.garbling.now 0 (4 * k) 4 _ (4 * (k + 1))
+    Wrote-more (entries-more o garbling 0 (4 * k) 4 _ (4 * (k + 1))
     c.four_entry_pairs-pairs.ensures (omega arith) (omega arith))
     c.loop-k.invariant c.in_ok-write_pairs.ensures.bytes c.in_ok-write_pairs.ensures.counted
 

@@ -5,8 +5,9 @@ use Rattle.gc_file.proofs.writer.FileWriter.write_last_entries.Goals as goal
 
 pub returns-in_err-write-clause-bytes : goal.returns-in_err-write-clause-bytes
 returns-in_err-write-clause-bytes g c =
-    let o = c.args.of.now.offset in let garbling = c.args.of.now.garbling.now in let first = c.args.first in
-    let i = c.loop-i.i in let done = i + 1 - first in let all = garbling.outputs - first in
+    let o = c.args.of.now.offset in let garbling = c.args.of.now.garbling.now in
+    let first = c.args.first in let all = garbling.outputs - first in
+    let i = c.loop-i.i in let done = i + 1 - first in
     Wrote-exit c.from_residual.result _ c.from_residual.ensures.1
     (entries-one o garbling first (i - first) i done c.pair_bytes.ensures
     c.output_entry-entry_zero.ensures c.output_entry-entry_one.ensures (omega arith) (omega arith))
@@ -15,9 +16,9 @@ returns-in_err-write-clause-bytes g c =
 
 pub loop-i-preserved : goal.loop-i-preserved
 loop-i-preserved g c =
-    let garbling = c.args.of.now.garbling.now in let first = c.args.first in
-    let i = c.loop-i.i in let done = i + 1 - first in
-    Wrote-more (entries-one c.args.of.now.offset garbling first (i - first) i done c.pair_bytes.ensures
+    let o = c.args.of.now.offset in let garbling = c.args.of.now.garbling.now in
+    let first = c.args.first in let i = c.loop-i.i in let done = i + 1 - first in
+    Wrote-more (entries-one o garbling first (i - first) i done c.pair_bytes.ensures
     c.output_entry-entry_zero.ensures c.output_entry-entry_one.ensures (omega arith) (omega arith))
     c.loop-i.invariant c.in_ok-write.ensures.bytes c.in_ok-write.ensures.counted
 
