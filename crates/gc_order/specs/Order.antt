@@ -28,15 +28,14 @@ abbrev pub number_word : List ℕ → ℕ → ℕ → Rule
 number_word id low high =
     record (new_rule id) { value_names = 1; parser = Some (Unsigned low high); required = true }
 
+-- an option
+abbrev pub named_option : List ℕ → Rule
+named_option id = record (new_rule id) { long = Some id; value_names = 1 }
+
 -- an option that is a number from `low` to `high`, and is `default` where it isn't given
 abbrev pub number_option : List ℕ → ℕ → ℕ → List ℕ → Rule
 number_option id low high default =
-    record (new_rule id) {
-      long = Some id;
-      value_names = 1;
-      parser = Some (Unsigned low high);
-      defaults = default ∷ [];
-    }
+    record (named_option id) { parser = Some (Unsigned low high); defaults = default ∷ [] }
 
 -- the option `--workers WORKERS`
 abbrev pub workers_option : Rule

@@ -1,13 +1,13 @@
 //! The program's commands, as clap knows them, with their help.
 
-ghost use Rattle.std.specs.Prelude.{IfOk, codes};
+ghost use Rattle.std.specs.Prelude.{ℕ, List, IfOk, codes};
 ghost use Rattle.clap.specs.Words.{App, Rule, new_rule, with_rule, with_subcommand};
 ghost use Rattle.gc_order.specs.Order.{HasRule, HasShape, audit_command, check_command};
 ghost use Rattle.gc_order.specs.Order.{circuit_program, command_on_circuit, command_with_seed};
 ghost use Rattle.gc_order.specs.Order.{deal_command, eval_command, explain_flag, file_program};
 ghost use Rattle.gc_order.specs.Order.{garble_command, hex_flag};
 ghost use Rattle.gc_order.specs.Order.{jobs_command, labels_command, locate_command, more_words};
-ghost use Rattle.gc_order.specs.Order.{named_program, new_command, number_option, order_command, plain_command, program};
+ghost use Rattle.gc_order.specs.Order.{named_option, named_program, new_command, number_option, order_command, plain_command, program};
 ghost use Rattle.gc_order.specs.Order.{required_word, run_command, stats_command, workers_option};
 
 use crate::help::{
@@ -144,8 +144,8 @@ fn garble<'a>(alloc: Global) -> Result<Command<'a>, AllocError>
     let about = "Garbles a circuit into a file";
     let command = command_with_seed(alloc, "garble", about, GARBLE_HELP);
     let command = with_arg(command, out_arg(alloc, "The garbled file to write"));
-    let format = number_arg(alloc, "format", "FORMAT", FORMAT_HELP, 1, 2, "2");
-    let command = with_arg(command, format);
+    let format = option_arg(alloc, "format", "FORMAT", FORMAT_HELP);
+    let command = with_arg(command, with_number(format, 1, 2, "2"));
     with_arg(command, workers_arg(alloc))
 }
 
@@ -190,10 +190,10 @@ fn labels<'a>(alloc: Global) -> Result<Command<'a>, AllocError>
 {
     let about = "Prints the labels and the bits of a circuit's wires for the given values";
     let command = command_with_seed(alloc, "labels", about, LABELS_HELP);
-    let from = number_arg(alloc, "from", "FROM", FROM_HELP, 0, MOST, "0");
-    let command = with_arg(command, from);
-    let count = number_arg(alloc, "count", "COUNT", COUNT_HELP, 0, MOST, "4294967295");
-    let command = with_arg(command, count);
+    let from = option_arg(alloc, "from", "FROM", FROM_HELP);
+    let command = with_arg(command, with_number(from, 0, MOST, "0"));
+    let count = option_arg(alloc, "count", "COUNT", COUNT_HELP);
+    let command = with_arg(command, with_number(count, 0, MOST, "4294967295"));
     with_arg(command, values_arg(alloc))
 }
 
@@ -289,7 +289,8 @@ fn workers_arg<'a>(alloc: Global) -> Arg<'a>
     ensures { HasRule workers_option result }
 {
     let help = "How many threads may garble or evaluate, from 1 to 64; the result is the same";
-    number_arg(alloc, "workers", "WORKERS", help, 0, MOST, "1")
+    let workers = option_arg(alloc, "workers", "WORKERS", help);
+    with_number(workers, 0, MOST, "1")
 }
 
 /// The flag for output values in hexadecimal digits.
@@ -312,20 +313,19 @@ fn explain_arg<'a>(alloc: Global) -> Arg<'a>
         .help(EXPLAIN_HELP)
 }
 
-/// An option that is a number from `low` to `high`, and is `default` where it isn't given.
-fn number_arg<'a>(
-    alloc: Global,
-    id: &'a str,
-    name: &'a str,
-    help: &'a str,
-    low: u64,
-    high: u64,
-    default: &'a str,
-) -> Arg<'a>
-    ensures { HasRule (number_option id.entry.now low high default.entry.now) result }
+/// An option of this id.
+fn option_arg<'a>(alloc: Global, id: &'a str, name: &'a str, help: &'a str) -> Arg<'a>
+    ensures { HasRule (named_option id.entry.now) result }
 {
-    named_arg(alloc, id, name, help)
-        .long(id)
+    named_arg(alloc, id, name, help).long(id)
+}
+
+/// The option, which is a number from `low` to `high`, and is `default` where it isn't given.
+fn with_number<'a>(option: Arg<'a>, low: u64, high: u64, default: &'a str) -> Arg<'a>
+    ensures { (id : List ℕ) → HasRule (named_option id) option.entry
+        → HasRule (number_option id low high default.entry.now) result }
+{
+    option
         .value_parser(ValueParser::unsigned(low, high))
         .default_value(default)
 }

@@ -55,8 +55,8 @@ Prints eleven lines: `xor`, `and`, `inv`, `eq` and `eqw` with the number of gate
 operation, `depth` and `and_depth` with the greatest depth of a wire in gates and in AND gates, \
 `level_width` with the number of AND gates for each AND depth, rounded down, `unread` with the \
 number of gates that set a wire that no gate and no output value reads, and `garbled1` and \
-`garbled2` with the number of bytes of the garbled file of version 1 and of version 2. `order` pays \
-where `level_width` is 4 or more.
+`garbled2` with the number of bytes of the garbled file of version 1 and of version 2. `order` \
+pays where `level_width` is 4 or more.
 
 Example:
   halfgates stats adder.txt"
@@ -73,10 +73,10 @@ Example, with a full adder in adder.txt that reads three bits:
 
 pub(crate) const ORDER_HELP: &str = command_help!(
     "\
-Writes a circuit with the same gates and the same outputs into the file OUT, in canonical text, and \
-prints `wrote` with the number of its bytes. Its gates are in order of AND depth, of one depth the \
-AND gates first. Evaluating it can take half the time, and garbling it 0.7 to 0.8 of the time. Its \
-digest is another: each party needs the ordered file.
+Writes a circuit with the same gates and the same outputs into the file OUT, in canonical text, \
+and prints `wrote` with the number of its bytes. Its gates are in order of AND depth, of one depth \
+the AND gates first. Evaluating it can take half the time, and garbling it 0.7 to 0.8 of the time. \
+Its digest is another: each party needs the ordered file.
 
 Example:
   halfgates order adder.txt ordered.txt"
