@@ -31,7 +31,7 @@ fn main(rt: HostRuntime) -> Result<()> {
     }
     let mut text = Vec::new(rt.alloc());
     fs::open(&rt, file.as_str())?.read_to_end(&mut text)?;
-    let workload = Workload::new(rt.alloc(), &text)?;
-    time_parts(&rt, rt.alloc(), &workload, &text, repeats, &mut timings)?;
+    let workload = Workload::new(rt.alloc(), text)?;
+    time_parts(&rt, &workload, repeats, &mut timings)?;
     print_times(&rt, &workload.circuit, &timings)
 }

@@ -1,11 +1,14 @@
 //! The parts that are timed.
 
-use crate::jobs::{job_of, one_after_another, side_by_side, together};
+use crate::jobs::{one_after_another, side_by_side, together};
 use crate::part::Part;
 use anyhow::{Result, anyhow};
 use gc_circuit::{Circuit, fits, plain_eval};
 use gc_eval::evaluate_many;
-use gc_file::{GarbledReader, MemSink, Sink, SinkFault, read_garbled, write_garbled2};
+use gc_file::{
+    GarbledReader, LabelFile, MemSink, Sink, SinkFault, read_garbled, read_labels, write_garbled2,
+    write_labels,
+};
 use gc_half::{Garbling, garble_one_thread, garble_two};
 use gc_job::{Job, evaluate};
 use gc_label::Seed;
@@ -17,9 +20,11 @@ use std::alloc::Global;
 use std::sync::Wait;
 use std::thread::Threads;
 
-/// A circuit, and all that its parts take, with zeros as inputs.
+/// A circuit's text, and all that its parts take, with zeros as inputs.
 #[derive(Drop)]
 pub struct Workload {
+    alloc: Global,
+    text: Vec<u8>,
     pub circuit: Circuit,
     seed: Seed,
     other: Seed,
@@ -27,6 +32,13 @@ pub struct Workload {
     values: Vec<Vec<bool>>,
     canonical_text: Vec<u8>,
     garbled_file: Vec<u8>,
+}
+
+/// A job, and a list of such jobs.
+#[derive(Drop)]
+pub struct Jobs<'c> {
+    one: Job<'c>,
+    list: Vec<Job<'c>>,
 }
 
 /// Input values of zeros.
@@ -55,11 +67,13 @@ impl Sink for Nowhere {
 }
 
 impl Workload {
-    pub fn new(alloc: Global, text: &[u8]) -> Result<Workload> {
-        let circuit = Circuit::read(alloc, text)?;
+    pub fn new(alloc: Global, text: Vec<u8>) -> Result<Workload> {
+        let circuit = Circuit::read(alloc, &text)?;
         let seed = Seed::from_bytes([0; 32]);
         let garbling = garble_one_thread(alloc, &circuit, &seed)?;
         Ok(Workload {
+            alloc,
+            text,
             values: values_of(alloc, &circuit)?,
             canonical_text: circuit.canon(alloc)?,
             garbled_file: file_of(alloc, &circuit, &garbling, &seed)?,
@@ -70,67 +84,73 @@ impl Workload {
         })
     }
 
-    /// The job of the garbled file and of the values.
-    pub fn job(&self, alloc: Global) -> Result<Job<'_>> {
-        job_of(
-            alloc,
-            &self.circuit,
-            &self.garbled_file,
-            &self.seed,
-            &self.values,
-        )
+    /// The job of the garbled file and of the values, and a list of this many such jobs.
+    pub fn jobs(&self, count: u32) -> Result<Jobs<'_>> {
+        let mut list = Vec::with_capacity(self.alloc, count as usize)?;
+        for _ in 0..count {
+            list.push(self.job()?)?;
+        }
+        Ok(Jobs {
+            one: self.job()?,
+            list,
+        })
     }
 
-    /// This many such jobs.
-    pub fn jobs(&self, alloc: Global, count: u32) -> Result<Vec<Job<'_>>> {
-        let mut jobs = Vec::with_capacity(alloc, count as usize)?;
-        for _ in 0..count {
-            jobs.push(self.job(alloc)?)?;
+    /// The job of the garbled file and of the values.
+    fn job(&self) -> Result<Job<'_>> {
+        let mut labels = Vec::new(self.alloc);
+        for (index, value) in (0..).zip(&self.values) {
+            labels.push(self.label_file(index, value)?)?;
         }
-        Ok(jobs)
+        let garbled = read_garbled(self.alloc, &self.garbled_file)?;
+        Ok(Job::bind(self.alloc, &self.circuit, garbled, &labels)?)
+    }
+
+    /// The label file of an input value.
+    fn label_file(&self, index: u32, value: &[bool]) -> Result<LabelFile> {
+        let mut sink = MemSink::new(self.alloc, None);
+        let widths = self.circuit.input_widths();
+        if index as usize >= widths.len() || widths[index as usize] as usize != value.len() {
+            return Err(anyhow!("the value does not fit"));
+        }
+        write_labels(&mut sink, &self.circuit, &self.seed, index, value)?;
+        Ok(read_labels(self.alloc, &sink.into_bytes())?)
     }
 
     /// Does a part of the work once.
-    pub fn run<R: Threads + Wait + Sync>(
-        &self,
-        rt: &R,
-        alloc: Global,
-        part: Part,
-        text: &[u8],
-        job: &Job,
-        jobs: &[Job],
-    ) -> Result<()> {
+    pub fn run<R: Threads + Wait + Sync>(&self, rt: &R, part: Part, jobs: &Jobs) -> Result<()> {
+        let (alloc, job) = (self.alloc, &jobs.one);
         match part {
-            Part::Read => Ok(Circuit::read(alloc, text).map(drop)?),
-            Part::Plain => self.plain(alloc),
+            Part::Read => Ok(Circuit::read(alloc, &self.text).map(drop)?),
+            Part::Plain => self.plain(),
             Part::Lanes => self.lanes(),
             Part::EightLanes => self.eight_lanes(),
             Part::Garble => Ok(garble_one_thread(alloc, &self.circuit, &self.seed).map(drop)?),
             Part::GarbleTwo => {
                 Ok(garble_two(alloc, &self.circuit, &self.seed, &self.other).map(drop)?)
             }
-            Part::GarbleBy(workers) => self.garble(rt, alloc, workers),
+            Part::GarbleBy(workers) => self.garble(rt, workers),
             Part::Job => Ok(evaluate(alloc, job).map(drop)?),
             Part::JobFour => side_by_side(alloc, job),
             Part::JobBy(workers) => Ok(evaluate_many(rt, alloc, job, workers, &Open).map(drop)?),
-            Part::List => one_after_another(alloc, jobs),
-            Part::ListBy(workers) => together(rt, alloc, jobs, workers),
+            Part::List => one_after_another(alloc, &jobs.list),
+            Part::ListBy(workers) => together(rt, alloc, &jobs.list, workers),
             Part::Digest => self.digest(),
             Part::Sha => sha(&self.canonical_text),
             Part::Write => write(&mut Nowhere, &self.circuit, &self.garbling, &self.seed),
-            Part::ReadFile => self.read_file(alloc),
-            Part::Pieces => self.pieces(alloc),
+            Part::ReadFile => self.read_file(),
+            Part::Pieces => self.pieces(),
             Part::FileSha => sha(&self.garbled_file),
             Part::EightSha => self.eight_files(),
             Part::KitSha => not_zeros(Sha256::digest(&self.garbled_file)),
         }
     }
 
-    fn plain(&self, alloc: Global) -> Result<()> {
+    fn plain(&self) -> Result<()> {
         if !fits(&self.circuit, &self.values) {
             return Err(anyhow!("the values do not fit"));
         }
-        plain_eval(alloc, &self.circuit, &self.values)?;
+        plain_eval(self.alloc, &self.circuit, &self.values)?;
         Ok(())
     }
 
@@ -159,8 +179,8 @@ impl Workload {
     }
 
     /// Garbles with this many workers.
-    fn garble<R: Threads + Wait + Sync>(&self, rt: &R, alloc: Global, workers: u32) -> Result<()> {
-        garble(rt, alloc, &self.circuit, &self.seed, workers, &Open)?;
+    fn garble<R: Threads + Wait + Sync>(&self, rt: &R, workers: u32) -> Result<()> {
+        garble(rt, self.alloc, &self.circuit, &self.seed, workers, &Open)?;
         Ok(())
     }
 
@@ -168,8 +188,8 @@ impl Workload {
         not_zeros(self.circuit.digest())
     }
 
-    fn read_file(&self, alloc: Global) -> Result<()> {
-        not_zeros(read_garbled(alloc, &self.garbled_file)?.digest())
+    fn read_file(&self) -> Result<()> {
+        not_zeros(read_garbled(self.alloc, &self.garbled_file)?.digest())
     }
 
     fn eight_files(&self) -> Result<()> {
@@ -177,8 +197,8 @@ impl Workload {
         not_zeros(digest)
     }
 
-    fn pieces(&self, alloc: Global) -> Result<()> {
-        let mut reader = GarbledReader::new(alloc);
+    fn pieces(&self) -> Result<()> {
+        let mut reader = GarbledReader::new(self.alloc);
         for piece in self.garbled_file.chunks(4096) {
             reader.feed(piece)?;
         }

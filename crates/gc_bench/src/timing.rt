@@ -1,11 +1,9 @@
 //! The times that parts take.
 
-use crate::measures::Workload;
+use crate::measures::{Jobs, Workload};
 use crate::part::Part;
 use anyhow::{Result, anyhow};
 use gc_circuit::Circuit;
-use gc_job::Job;
-use std::alloc::Global;
 use std::rt::Clock;
 use std::sync::Wait;
 use std::thread::Threads;
@@ -34,17 +32,14 @@ impl Timing {
 /// Runs the parts one after another, and all of them this many times.
 pub fn time_parts<R: Threads + Wait + Clock + Sync>(
     rt: &R,
-    alloc: Global,
     workload: &Workload,
-    text: &[u8],
     repeats: u32,
     timings: &mut [Timing],
 ) -> Result<()> {
-    let job = workload.job(alloc)?;
     let listed = timings.iter().map(|it| it.part.jobs_listed());
-    let jobs = workload.jobs(alloc, listed.max().unwrap_or(0))?;
+    let jobs = workload.jobs(listed.max().unwrap_or(0))?;
     for _ in 0..repeats {
-        time_once(rt, alloc, workload, text, &job, &jobs, timings)?;
+        time_once(rt, workload, &jobs, timings)?;
     }
     Ok(())
 }
@@ -52,16 +47,13 @@ pub fn time_parts<R: Threads + Wait + Clock + Sync>(
 /// Runs each part once.
 fn time_once<R: Threads + Wait + Clock + Sync>(
     rt: &R,
-    alloc: Global,
     workload: &Workload,
-    text: &[u8],
-    job: &Job,
-    jobs: &[Job],
+    jobs: &Jobs,
     timings: &mut [Timing],
 ) -> Result<()> {
     for timing in timings {
         let start = Instant::now(rt)?;
-        workload.run(rt, alloc, timing.part, text, job, jobs)?;
+        workload.run(rt, timing.part, jobs)?;
         let took = nanoseconds_of(start.elapsed(rt)?);
         timing.nanoseconds = timing.nanoseconds.min(took);
     }
