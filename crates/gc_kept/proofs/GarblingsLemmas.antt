@@ -1,6 +1,8 @@
 -- Lists of garblings, and their files.
 use Rattle.std.proofs.Common.{◌≡◌, ℕ, ◌+◌, ◌-◌, ◌<◌, ◌≤◌, List, [], ◌∷◌, ◌++◌, length, map, take, drop, get_or, flat_map, refl, sym, ◌∙◌, ap, append-nil, take-add, drop-drop, arith}
-use Rattle.std.proofs.lemmas.List.{take_more, length-append, map-append, take-map, get_or-map}
+use Rattle.std.specs.List.{All}
+use Rattle.std.proofs.lemmas.List.{take_more, length-append, length-map, map-append, take-map, get_or-map}
+use Rattle.std.proofs.lemmas.List.Elements.{All-push}
 use Rattle.std.proofs.lemmas.List.Concat.{flat_map-append}
 use Rattle.std.proofs.lemmas.List.Folds.{flat_map-map, length-flat_map-take}
 use Rattle.std.proofs.Math.Seq.{take-append_seam, drop-append-add}
@@ -26,6 +28,15 @@ module _ {X Y : Type 0} (of : X → Y) (xs : List X) (i : ℕ) (d x : X) (within
         map-append of (take i xs) (x ∷ []),
         ← take-map of i xs,
       ) refl
+
+  module _ (P : Y → Type 0) where
+    -- of which something holds as of those before it,
+    pub all_more : All P (take i (map of xs)) → P (of x) → All P (take (i + 1) (map of xs))
+    all_more before holds = rw map_more (All-push P (take i (map of xs)) (of x) before holds)
+
+    -- and which is one of all.
+    pub one_of : All P (map of xs) → P (of x)
+    one_of all = rw (map_at (of x)) at (all i (of x) (omega (arith, within, length-map xs of)))
 
   module _ {Z : Type 0} (bytes_in : Y → List Z) where
     -- whose bytes come after those of the things before it,

@@ -1,5 +1,5 @@
 -- The bits of a list of jobs.
-use Rattle.std.proofs.Common.{◌≡◌, ℕ, ◌+◌, ◌<◌, ◌≤◌, Bool, List, length, map, take, get_or, slice_get, flat_map, Some, refl, sym, ◌∙◌, ap, arith}
+use Rattle.std.proofs.Common.{◌≡◌, ℕ, ◌+◌, ◌<◌, ◌≤◌, Bool, List, [], ◌∷◌, length, map, take, get_or, slice_get, flat_map, Some, refl, sym, ◌∙◌, ap, arith}
 use Rattle.std.specs.List.{sum}
 use Rattle.std.proofs.lemmas.List.Concat.{length-flat_map}
 use Rattle.std.proofs.lemmas.List.Sums.{sum-map, sum_by_more, sum_by_more_le}
@@ -7,7 +7,7 @@ use Rattle.std.proofs.lemmas.Option.{get_or_from_slice_get, slice_get_read, slic
 use Rattle.gc_netlist.specs.Circuit.{output_wires}
 use Rattle.gc_job.specs.Job.{JobParts}
 use Rattle.gc_job.specs.Jobs.{AreBeside, AreEvaluated}
-use Rattle.gc_kept.specs.Jobs.{outputs_of}
+use Rattle.gc_kept.specs.Jobs.{AreAllEvaluated, outputs_of}
 
 -- The job at a place of a list of things that have jobs.
 pub job_at : {X : Type 0} (xs : List X) (job_in : X → JobParts) (k : ℕ) (x : X) → k < length xs
@@ -22,6 +22,21 @@ pub one_more : (jobs : List JobParts) (first end : ℕ) (here there : JobParts)
     → AreBeside jobs first (end + 1)
 one_more jobs first end here there here_at there_at same on k a b from below a_at b_at =
     grind (arith, on k a b from)
+
+-- Of no jobs there are no bits.
+pub none_evaluated : (jobs : List JobParts) (buffer : List ℕ) → length jobs ≡ 0
+    → AreAllEvaluated jobs buffer buffer
+none_evaluated [] buffer none = record {
+  each = [];
+  evaluated = record {
+    count = refl;
+    lengths = refl;
+    each = λ k job bits at found.
+        absurd (omega (arith, slice_get_within [] k job at));
+  };
+  buffer = refl;
+}
+none_evaluated (job ∷ jobs) buffer none = absurd (omega (arith, none))
 
 module _ (jobs : List JobParts) where
   -- How many output wires there are with one more job.

@@ -7,7 +7,7 @@ use Rattle.gc_file.specs.Honest.{honest_parts_with}
 use Rattle.gc_kept.specs.declared.fault.KeptFault.{KeptFault}
 use Rattle.gc_kept.specs.declared.fault.KeptFault.TheVariants.{BadArgument, SmallBuffer, Memory, NoDigest}
 use Rattle.gc_kept.specs.Files.{IsFileAt, file_of}
-use Rattle.gc_kept.specs.Garbling.{GarblingWith, HasFiles}
+use Rattle.gc_kept.specs.Garbling.{GarblingWith}
 
 -- The AND gates of each garbling are numbered from 0 on,
 abbrev pub AreFromZero : List GarblingWith → Type 0
@@ -24,7 +24,8 @@ files_of version garblings = flat_map (λ g. file_of g version) garblings
 -- Each garbling has garbled files, and the buffer begins with those of this version.
 pub record AreAllGarbledAt (garblings : List GarblingWith) (version : Version)
     (old new : List ℕ) : Type 0 where
-  pub have : All HasFiles garblings
+  pub from_zero : AreFromZero garblings
+  pub digests : HaveDigests garblings
   pub files : IsFileAt (files_of version garblings) old new
 
 -- The fault where some garbling has none: the AND gates of some aren't numbered from 0 on, else a digest is missing.
@@ -42,7 +43,8 @@ HasFilesFault files room _ = ⊥
 -- The fault of writing them: that of garblings without files, else that of writing these.
 abbrev pub HasAllGarbledFault : List GarblingWith → Version → ℕ → KeptFault → Type 0
 HasAllGarbledFault garblings version room fault = HaveNoFiles garblings fault
-    ⊎ (All HasFiles garblings × HasFilesFault (files_of version garblings) room fault)
+    ⊎ (AreFromZero garblings × HaveDigests garblings
+    × HasFilesFault (files_of version garblings) room fault)
 
 -- The bytes of a garbling's file before its trailer.
 abbrev pub body_of : Version → GarblingWith → List ℕ

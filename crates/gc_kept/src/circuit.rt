@@ -110,7 +110,8 @@ impl KeptCircuit {
 
     /// How many wires the input value with this index has. It refuses an index without a value (42).
     pub(crate) fn input_width(&self, index: u32) -> Result<usize, KeptFault>
-        ensures ok { IfOk result (λ width. slice_get self.now.netlist.input_widths index ≡ Some width) }
+        ensures ok { IfOk result (λ width.
+            slice_get self.now.netlist.input_widths index ≡ Some width) }
         ensures few { IfOk result (λ width. width < 2 ^ 32) }
         ensures fault { IfErr result (HasNoValue self.now.netlist.input_widths index) }
     {
@@ -119,7 +120,8 @@ impl KeptCircuit {
 
     /// How many wires the output value with this index has. It refuses an index without a value (42).
     pub(crate) fn output_width(&self, index: u32) -> Result<usize, KeptFault>
-        ensures ok { IfOk result (λ width. slice_get self.now.netlist.output_widths index ≡ Some width) }
+        ensures ok { IfOk result (λ width.
+            slice_get self.now.netlist.output_widths index ≡ Some width) }
         ensures few { IfOk result (λ width. width < 2 ^ 32) }
         ensures fault { IfErr result (HasNoValue self.now.netlist.output_widths index) }
     {

@@ -1,13 +1,10 @@
 //! Writing files to the buffers of callers.
 
-ghost use Rattle.std.specs.Prelude.{◌≡◌, ◌≢◌, length, IfOk, IfErr, OnOk, OnErr};
-ghost use Rattle.sha2.specs.Sha256.{sha256};
+ghost use Rattle.std.specs.Prelude.{◌≡◌, ◌≢◌, length, IfErr, OnOk, OnErr};
 ghost use Rattle.gc_netlist.specs.Canon.{canonical_text};
-ghost use Rattle.gc_half.specs.Garbling.{FitsCircuit};
 ghost use Rattle.gc_file.specs.Honest.{IsFileSize};
 ghost use Rattle.gc_kept.specs.Files.{IsFileAt, IsWholeFileAt, HasRoomFault, HasWriteFault};
 ghost use Rattle.gc_kept.specs.Files.{IsGarbledAt, HasFileFault, file_of};
-ghost use Rattle.gc_kept.specs.Garbling.{HasFiles, HasNoFiles};
 
 use crate::circuit::KeptCircuit;
 use crate::fault::KeptFault;
@@ -81,7 +78,9 @@ impl KeptGarbling {
         ensures unreported { IfErr result (λ fault.
             fault ≢ KeptFault.SmallBuffer → written.new ≡ written.old) }
     {
-        let source = self.source(version)?;
+        self.law_garbled();
+        let digest = self.file_digest()?;
+        let source = self.source(digest, version);
         look_for_room(self.file_size(version), buffer, written)?;
         let mut sink = MemSink::new(alloc, None);
         match write_garbled_file(&mut sink, &source, Trailer::Written) {
@@ -98,29 +97,24 @@ impl KeptGarbling {
         self.circuit().garbled_size(version) as usize
     }
 
-    /// What the garbled file of a version is written from. It refuses what [`KeptGarbling::file_digest`] refuses.
-    pub(crate) fn source(
-        &self,
+    /// What the garbled file of a version is written from. The caller gives the circuit's digest.
+    pub(crate) fn source<'a>(
+        &'a self,
+        digest: &'a [u8; 32],
         version: Version,
-    ) -> Result<GarbledSource<'_, Global, Global>, KeptFault>
-        ensures has { OnOk result (HasFiles self.now) }
-        ensures version { IfOk result (λ source. source.version ≡ version) }
-        ensures circuit { IfOk result (λ source. source.circuit.now ≡ self.now.circuit) }
-        ensures digest { IfOk result (λ source.
-            source.digest.now ≡ sha256 (canonical_text self.now.circuit)) }
-        ensures garbling { IfOk result (λ source. source.garbling.now ≡ self.now.garbling) }
-        ensures offset { IfOk result (λ source. source.offset ≡ self.now.offset) }
-        ensures fits { OnOk result (FitsCircuit self.now.circuit self.now.garbling) }
-        ensures fault { IfErr result (HasNoFiles self.now) }
+    ) -> GarbledSource<'a, Global, Global>
+        ensures version { result.version ≡ version }
+        ensures circuit { result.circuit.now ≡ self.now.circuit }
+        ensures digest { result.digest.now ≡ digest.now }
+        ensures garbling { result.garbling.now ≡ self.now.garbling }
+        ensures offset { result.offset ≡ self.now.offset }
     {
-        let digest = self.file_digest()?;
-        self.law_garbled();
-        Ok(GarbledSource {
+        GarbledSource {
             version,
             circuit: self.circuit.circuit(),
             digest,
             garbling: &self.garbling,
             offset: self.offset,
-        })
+        }
     }
 }

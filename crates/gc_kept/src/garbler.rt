@@ -106,8 +106,8 @@ impl KeptGarbler {
     /// Writes the next row pairs to the front of a buffer, and returns how many bytes these are.
     fn write_next(&mut self, buffer: &mut [u8]) -> usize
         ensures makes { MakesPiece self.old self.new buffer.old buffer.new result }
-        ensures most { result
-            ≡ 32 * min (length buffer.old / 32) (and_count self.old.circuit - self.old.garbler.made) }
+        ensures most { result ≡ 32 * min (length buffer.old / 32)
+            (and_count self.old.circuit - self.old.garbler.made) }
     {
         let mut rows = [NO_ROWS; CHUNK];
         let mut done = 0;

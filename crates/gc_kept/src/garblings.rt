@@ -1,10 +1,10 @@
 //! Lists of garblings.
 
-ghost use Rattle.std.specs.Prelude.{◌≡◌, ◌+◌, ◌≤◌, ◌++◌, length, map, flat_map, take, drop, IfOk, IfErr, OnOk, OnErr, All};
+ghost use Rattle.std.specs.Prelude.{◌≡◌, ◌+◌, ◌≤◌, ◌++◌, length, map, flat_map, take, drop, IfOk, IfErr, OnOk, OnErr};
 ghost use Rattle.sha2.specs.Sha256.{sha256};
 ghost use Rattle.gc_kept.specs.Files.{HasRoomFault, IsFileAt};
 ghost use Rattle.gc_kept.specs.Garbling.{HasFiles};
-ghost use Rattle.gc_kept.specs.Garblings.{AreAllGarbledAt, HasAllGarbledFault, HaveNoFiles, body_of, files_of, with_trailer};
+ghost use Rattle.gc_kept.specs.Garblings.{AreAllGarbledAt, AreFromZero, HasAllGarbledFault, HaveDigests, body_of, files_of, with_trailer};
 
 use crate::fault::KeptFault;
 use crate::garbling::KeptGarbling;
@@ -28,7 +28,8 @@ pub fn write_many(
         (HasAllGarbledFault (map (λ g. g.now) garblings.now) version (length files.old)) }
     ensures unwritten { OnErr result (files.new ≡ files.old) }
 {
-    look_at_each(garblings)?;
+    look_at_numbers(garblings)?;
+    look_at_digests(garblings)?;
     look_for_room(garblings, version, files)?;
     let bodies = bodies_of(alloc, garblings, version)?;
     let bodies = slices_of(alloc, &bodies)?;
@@ -37,17 +38,30 @@ pub fn write_many(
     Ok(())
 }
 
-/// Checks that each garbling has garbled files: first that the AND gates of each are numbered from 0 on, and then that
-/// the circuit of each had its digest.
-fn look_at_each(garblings: &[&KeptGarbling]) -> Result<(), KeptFault>
-    ensures ok { OnOk result (All HasFiles (map (λ g. g.now) garblings.now)) }
-    ensures fault { IfErr result (HaveNoFiles (map (λ g. g.now) garblings.now)) }
+/// Checks that the AND gates of each garbling are numbered from 0 on.
+fn look_at_numbers(garblings: &[&KeptGarbling]) -> Result<(), KeptFault>
+    ensures ok { OnOk result (AreFromZero (map (λ g. g.now) garblings.now)) }
+    ensures fault { IfErr result (λ fault. fault ≡ KeptFault.BadArgument) }
+    ensures one { OnErr result (¬ AreFromZero (map (λ g. g.now) garblings.now)) }
 {
-    if !garblings.iter().all(|garbling| garbling.is_from_zero()) {
-        return Err(KeptFault::BadArgument);
+    for garbling in garblings {
+        if !garbling.is_from_zero() {
+            return Err(KeptFault::BadArgument);
+        }
     }
-    if !garblings.iter().all(|garbling| garbling.has_digest()) {
-        return Err(KeptFault::NoDigest);
+    Ok(())
+}
+
+/// Checks that the circuit of each garbling had its digest.
+fn look_at_digests(garblings: &[&KeptGarbling]) -> Result<(), KeptFault>
+    ensures ok { OnOk result (HaveDigests (map (λ g. g.now) garblings.now)) }
+    ensures fault { IfErr result (λ fault. fault ≡ KeptFault.NoDigest) }
+    ensures one { OnErr result (¬ HaveDigests (map (λ g. g.now) garblings.now)) }
+{
+    for garbling in garblings {
+        if !garbling.has_digest() {
+            return Err(KeptFault::NoDigest);
+        }
     }
     Ok(())
 }
@@ -81,7 +95,9 @@ impl KeptGarbling {
         ensures ok { IfOk result (λ bytes. bytes.items ≡ body_of version self.now) }
         ensures fault { IfErr result (λ fault. fault ≡ KeptFault.Memory) }
     {
-        let source = self.source(version)?;
+        self.law_garbled();
+        let digest = self.circuit.digest()?;
+        let source = self.source(digest, version);
         let mut sink = MemSink::new(alloc, None);
         match write_garbled_file(&mut sink, &source, Trailer::Omitted) {
             Ok(_) => Ok(sink.into_bytes()),
@@ -96,7 +112,8 @@ fn bodies_of(
     garblings: &[&KeptGarbling],
     version: Version,
 ) -> Result<Vec<Vec<u8, Global>, Global>, KeptFault>
-    requires { All HasFiles (map (λ g. g.now) garblings.now) }
+    requires numbers { AreFromZero (map (λ g. g.now) garblings.now) }
+    requires digests { HaveDigests (map (λ g. g.now) garblings.now) }
     ensures ok { IfOk result (λ bodies.
         map (λ b. b.items) bodies.items ≡ map (body_of version) (map (λ g. g.now) garblings.now)) }
     ensures fault { IfErr result (λ fault. fault ≡ KeptFault.Memory) }

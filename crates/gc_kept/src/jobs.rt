@@ -15,6 +15,7 @@ use std::alloc::{AllocError, Global};
 /// job's after another's, to the front of a buffer. Where jobs that follow one another are on one circuit, up to four
 /// of them are evaluated side by side. It refuses a buffer without a byte for each output wire of all jobs (61); else
 /// the fault is that of the first job that has one. After a fault the buffer is as it was.
+#[tactic(auto, using(crate::proofs::JobsLemmas::none_evaluated))]
 pub fn evaluate_list(alloc: Global, jobs: &[&KeptJob], bits: &mut [u8]) -> Result<(), KeptFault>
     ensures ok { OnOk result (AreAllEvaluated (map (λ j. j.now) jobs.now) bits.old bits.new) }
     ensures fault { IfErr result (HasJobListFault (map (λ j. j.now) jobs.now) (length bits.old)) }

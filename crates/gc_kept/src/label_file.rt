@@ -105,8 +105,9 @@ impl KeptCircuit {
             slice_get self.now.netlist.input_widths index ≡ Some (length v.items)) }
         ensures few { IfOk result (λ v. length v.items < 2 ^ 32) }
         ensures room { IfOk result (λ v. 16 + 16 * length v.items ≤ length buffer.now) }
-        ensures fault { (offset : ℕ) (zero_label : ℕ → ℕ) → IfErr result (HasDealtFaultWith self.now.netlist
-            offset zero_label index bits.now (length buffer.now) written.new) }
+        ensures fault { (offset : ℕ) (zero_label : ℕ → ℕ) → IfErr result
+            (HasDealtFaultWith self.now.netlist offset zero_label index bits.now
+            (length buffer.now) written.new) }
         ensures unreported { IfErr result (λ fault.
             fault ≢ KeptFault.SmallBuffer → written.new ≡ written.old) }
         ensures unwritten { IfOk result (λ _. written.new ≡ written.old) }
@@ -132,8 +133,8 @@ impl KeptCircuit {
     ) -> Result<(), KeptFault>
         ensures ok { OnOk result
             (IsDealtAt self.now.netlist seed.now index bits.now buffer.old buffer.new written.new) }
-        ensures fault { IfErr result
-            (HasDealtFault self.now.netlist seed.now index bits.now (length buffer.old) written.new) }
+        ensures fault { IfErr result (HasDealtFault self.now.netlist
+            seed.now index bits.now (length buffer.old) written.new) }
         ensures unwritten { OnErr result (buffer.new ≡ buffer.old) }
         ensures unreported { IfErr result (λ fault.
             fault ≢ KeptFault.SmallBuffer → written.new ≡ written.old) }

@@ -36,8 +36,10 @@ impl KeptCircuit {
     /// of the output wires to the front of a buffer. It refuses a buffer without a byte for each output wire (61), a
     /// wrong number of bits (16), and a byte other than 0 and 1 (15). After a fault the buffer is as it was.
     pub fn plain(&self, alloc: Global, bits: &[u8], outputs: &mut [u8]) -> Result<(), KeptFault>
-        ensures ok { OnOk result (ArePlainOutputs self.now.netlist bits.now outputs.old outputs.new) }
-        ensures fault { IfErr result (HasPlainBufferFault self.now.netlist bits.now (length outputs.old)) }
+        ensures ok { OnOk result
+            (ArePlainOutputs self.now.netlist bits.now outputs.old outputs.new) }
+        ensures fault { IfErr result
+            (HasPlainBufferFault self.now.netlist bits.now (length outputs.old)) }
         ensures unwritten { OnErr result (outputs.new ≡ outputs.old) }
     {
         let circuit = self.circuit();

@@ -17,7 +17,8 @@ pub returns-clause-ok : goal.returns-clause-ok
 returns-clause-ok c =
     let gs = map (λ g. g.now) c.args.garblings.now in
     record {
-      have = c.in_ok-look_at_each.ensures.ok;
+      from_zero = c.in_ok-look_at_numbers.ensures.ok;
+      digests = c.in_ok-look_at_digests.ensures.ok;
       files = rw (
         c.deref-3.ensures.value,
         c.in_ok-bodies-2.ensures.ok,

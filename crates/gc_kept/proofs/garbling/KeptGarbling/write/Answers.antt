@@ -10,7 +10,7 @@ returns-in_err-look_for_room-clause-fault c =
     c.from_residual-in_err-look_for_room.ensures.1 in
     let lacks = c.in_err-look_for_room in
     rw (p.1, p.2) (inr (
-      c.in_ok-source.ensures.has,
+      c.in_ok-digest.ensures.has,
       lacks_room (file_of c.args.self.now c.args.version) c.file_size.result
           (length c.args.buffer.now) c.look_for_room.new.written lacks.field-0.0
           c.file_size.ensures lacks.ensures.fault lacks.ensures.written,
