@@ -15,7 +15,7 @@ impl<A: Allocator + Copy, F: Reread> Ended<'_, A, F> {
     /// Explains a fault of the circuit. Where its file can't be reread, or has another fault now, the place is the
     /// whole file.
     pub(crate) fn explain_circuit(&self, fault: ReadFault) -> Option<Explanation<A>>
-        ensures { IfSome result (λ explanation.
+        ensures { IfSome result (λ it.
             IsCircuitPlace (F.bytes self.now.files.now (circuit_of (text_of self.now.order.now)))
             (circuit_of (text_of self.now.order.now)) fault it.place.items) }
     {

@@ -64,21 +64,21 @@ pub fn and_chains(alloc: Global, chains: u32, length: u32) -> Result<String, Fai
     Ok(text)
 }
 
-/// The gate at this place of a chain: AND gates, and after them gates of each other operation in turn. A gate reads both
-/// wires, the first, or neither.
+/// The gate at this place of a chain: every fourth gate is of another operation, of each in turn, and the others are
+/// AND gates. A gate reads both wires, the first, or neither.
 fn mixed_gate(alloc: Global, place: u64, wires: (u64, u64), set: u64) -> Result<String, Fail> {
     let (first, second) = wires;
-    let line = match place % 8 {
-        1 => format!(in alloc; "1 1 {first} {set} INV\n")?,
-        3 => format!(in alloc; "2 1 {first} {second} {set} XOR\n")?,
-        5 => format!(in alloc; "1 1 {first} {set} EQW\n")?,
-        7 => format!(in alloc; "1 1 1 {set} EQ\n")?,
+    let line = match place % 16 {
+        3 => format!(in alloc; "1 1 {first} {set} INV\n")?,
+        7 => format!(in alloc; "2 1 {first} {second} {set} XOR\n")?,
+        11 => format!(in alloc; "1 1 {first} {set} EQW\n")?,
+        15 => format!(in alloc; "1 1 1 {set} EQ\n")?,
         _ => format!(in alloc; "2 1 {first} {second} {set} AND\n")?,
     };
     Ok(line)
 }
 
-/// The same chains, in which every other gate is of another operation.
+/// The same chains, in which three gates in four are AND gates, and every fourth one is of another operation.
 pub fn mixed_chains(alloc: Global, chains: u32, length: u32) -> Result<String, Fail> {
     let n = u64::from(chains);
     let gates = n * u64::from(length);
