@@ -40,9 +40,10 @@
  * may be used by another thread once that thread knows that the call has returned.
  *
  * STACK. As measured on x86-64, halfgates_job_bind uses 53 kilobytes of stack, halfgates_garbling_write 41,
- * halfgates_audit 41, halfgates_write_many 37, halfgates_circuit_read 22, halfgates_circuit_order 22,
- * halfgates_circuit_from_gates 22, halfgates_evaluator_feed 12, halfgates_evaluate_labels 12, halfgates_garbler_next
- * 11, halfgates_circuit_text 9, and every other call less than 5.
+ * halfgates_audit 41, halfgates_write_many 37, halfgates_circuit_order 22, halfgates_circuit_read 22,
+ * halfgates_circuit_read_without_digest 22, halfgates_circuit_from_gates 22,
+ * halfgates_circuit_from_gates_without_digest 22, halfgates_evaluator_feed 12, halfgates_evaluate_labels 12,
+ * halfgates_garbler_next 11, halfgates_circuit_text 9, and every other call less than 5.
  *
  * BUFFERS. The library reads and writes buffers within a call and keeps no pointer to them. Buffers of bytes need no
  * alignment. A buffer that is written overlaps no other argument, and has at least the room that is needed, else the
@@ -96,7 +97,7 @@
 /* The version of this header. That of the library is halfgates_version(). */
 #define HALFGATES_VERSION_MAJOR 0
 #define HALFGATES_VERSION_MINOR 9
-#define HALFGATES_VERSION_PATCH 7
+#define HALFGATES_VERSION_PATCH 8
 
 #ifdef __cplusplus
 extern "C" {
@@ -176,7 +177,7 @@ halfgates_name halfgates_fault_name(int32_t code);
 /* Whether a code says that memory ran out: 1 for 13, 23, 36, 46 and 62, and else 0. */
 int32_t halfgates_is_memory(int32_t code);
 
-/* The version of the library, such as "0.9.7". */
+/* The version of the library, such as "0.9.8". */
 halfgates_name halfgates_version(void);
 
 /* ---------------------------------------------------------------------------------------------------- circuits -- */
