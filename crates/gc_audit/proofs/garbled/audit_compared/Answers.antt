@@ -4,7 +4,7 @@ use Rattle.gc_audit.proofs.GarbledLemmas.{compared-audit}
 use Rattle.gc_audit.proofs.garbled.audit_compared.Goals as goal
 
 pub row_difference-requires : goal.row_difference-requires
-row_difference-requires g c = within c.args.compared.first c.requires.first.1
+row_difference-requires g c = within c.args.compared.now.first c.requires.first.1
   where
     within : (first : Option Mismatch)
         → IsComparison c.args.of.now.circuit.now c.args.of.now.seed.now c.requires.first.0 first
