@@ -7,5 +7,5 @@ returns c rows spelled each =
     let a = c.args in
     let size : 32 * a.place + 32 - 32 * a.place ≡ 32 = omega arith in
     row_read rows a.place c.read_rows.new.rows _ a.bytes.now spelled each c.requires
-    (omega arith) c.index-row.is c.read_rows.ensures.rows
+    (omega arith) c.index-row-0.is c.read_rows.ensures.rows
     (rw size at c.read_rows.ensures.bytes)
