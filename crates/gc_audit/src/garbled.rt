@@ -121,18 +121,19 @@ pub struct ComparedFile<'a> {
 /// caller's conditions. It doesn't allocate.
 pub fn audit_compared<A: Allocator, B: Allocator>(
     of: &SeedReference<'_, A, B>,
-    compared: ComparedFile<'_>,
+    compared: &ComparedFile<'_>,
 ) -> PartsAudit
     requires labels { HasLabels of.now.circuit.now of.now.seed.now of.now.labels.now }
     requires first { (filed : List RowPair)
-        × IsComparison of.now.circuit.now of.now.seed.now filed compared.first }
-    requires bits { length compared.decode_bits.now ≡ output_wires of.now.circuit.now }
-    requires entries { length compared.entries.now
-        ≡ entry_count compared.version (length compared.decode_bits.now) }
+        × IsComparison of.now.circuit.now of.now.seed.now filed compared.now.first }
+    requires bits { length compared.now.decode_bits.now ≡ output_wires of.now.circuit.now }
+    requires entries { length compared.now.entries.now
+        ≡ entry_count compared.now.version (length compared.now.decode_bits.now) }
     ensures { (file : GarbledParts) → AreCountsRight of.now.circuit.now file
-        → file.version ≡ compared.version → file.decode_bits ≡ compared.decode_bits.now
-        → file.entries ≡ compared.entries.now
-        → IsComparison of.now.circuit.now of.now.seed.now file.rows compared.first
+        → file.version ≡ compared.now.version
+        → file.decode_bits ≡ compared.now.decode_bits.now
+        → file.entries ≡ compared.now.entries.now
+        → IsComparison of.now.circuit.now of.now.seed.now file.rows compared.now.first
         → IsPartsAudit of.now.circuit.now (garbling_of of.now.circuit.now of.now.seed.now)
         of.now.seed.now file result }
 {

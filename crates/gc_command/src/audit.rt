@@ -193,7 +193,7 @@ fn garbling_and_parts<A: Allocator + Copy>(
     };
     let parts = audit_compared(
         &of,
-        ComparedFile {
+        &ComparedFile {
             version,
             first,
             decode_bits: &decode_bits,

@@ -7,12 +7,12 @@ audit_labels_with_offset-requires g c = c.requires.fits
 
 pub returns-clause-verdict : goal.returns-clause-verdict
 returns-clause-verdict g c =
-    let a = c.args in
-    rw c.offset.ensures at (c.audit_labels_with_offset.ensures.verdict (input_label_of a.of.now.seed.now)
-    (HasLabels-input a.of.now.circuit.now a.of.now.seed.now c.law_lawful.ensures a.of.now.labels.now c.requires))
+    let of = c.args.of.now in
+    rw c.offset.ensures at (c.audit_labels_with_offset.ensures.verdict (input_label_of of.seed.now)
+    (HasLabels-input of.circuit.now of.seed.now c.law_lawful.ensures of.labels.now c.requires))
 
 pub returns-clause-dealt : goal.returns-clause-dealt
 returns-clause-dealt g c =
-    let a = c.args in
-    rw c.offset.ensures at (c.audit_labels_with_offset.ensures.dealt (input_label_of a.of.now.seed.now)
-    (HasLabels-input a.of.now.circuit.now a.of.now.seed.now c.law_lawful.ensures a.of.now.labels.now c.requires))
+    let of = c.args.of.now in
+    rw c.offset.ensures at (c.audit_labels_with_offset.ensures.dealt (input_label_of of.seed.now)
+    (HasLabels-input of.circuit.now of.seed.now c.law_lawful.ensures of.labels.now c.requires))
