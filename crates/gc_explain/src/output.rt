@@ -1,6 +1,6 @@
 //! Output labels that a garbled file doesn't recognise.
 
-ghost use Rattle.std.specs.Prelude.{◌≡◌, ◌==◌, ℕ, List, map, IfOk, IfSome, string_bytes};
+ghost use Rattle.std.specs.Prelude.{◌≡◌, ◌==◌, ℕ, List, true, map, IfOk, IfSome, string_bytes};
 ghost use Rattle.std.specs.List.{slice_split};
 ghost use Rattle.sha2.specs.Sha256.{sha256};
 ghost use Rattle.gc_netlist.specs.Canon.{canonical_text};
@@ -70,9 +70,8 @@ impl<A: Allocator + Copy, F: Reread> Ended<'_, A, F> {
         };
         let lines = lines_of(self.alloc, text).ok()?;
         for (i, line) in lines.iter().enumerate() {
-            match self.unknown_output(&circuit, &digest, line) {
-                Some(found) if found == output => return Some(i as u64 + 1),
-                _ => {}
+            if self.has_unknown_output(&circuit, &digest, line, output) {
+                return Some(i as u64 + 1);
             }
         }
         None
@@ -90,16 +89,22 @@ impl<A: Allocator + Copy, F: Reread> Ended<'_, A, F> {
         }
     }
 
-    /// The output whose label is unknown in the job that a line names, where there is one. The caller ensures that this
-    /// is the digest of the circuit's canonical text.
-    fn unknown_output(&self, circuit: &Circuit<A>, digest: &[u8; 32], line: &str) -> Option<u32>
+    /// Whether the job that a line names has this unknown output label. The caller ensures that this is the digest of
+    /// the circuit's canonical text.
+    fn has_unknown_output(
+        &self,
+        circuit: &Circuit<A>,
+        digest: &[u8; 32],
+        line: &str,
+        output: u32,
+    ) -> bool
         requires { digest.now ≡ sha256 (canonical_text circuit.now) }
-        ensures { IfSome result (HasUnknownOutput (F.bytes self.now.files.now) circuit.now
-            (tokens line.now)) }
+        ensures { result ≡ true → HasUnknownOutput (F.bytes self.now.files.now) circuit.now
+            (tokens line.now) output }
     {
         match self.fault_of_line(circuit, digest, line) {
-            Some(EvalFault::UnknownOutputLabel { output }) => Some(output),
-            _ => None,
+            Some(EvalFault::UnknownOutputLabel { output: found }) => found == output,
+            _ => false,
         }
     }
 

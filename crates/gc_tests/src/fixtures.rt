@@ -29,7 +29,7 @@ pub(crate) enum Shape {
     Ands(u32),
     /// This many chains of AND gates, each of this length.
     Chains(u32, u32),
-    /// This many chains, each of this length, in which every other gate is AND.
+    /// This many chains, each of this length, in which three gates in four are AND.
     Mixed(u32, u32),
 }
 

@@ -45,8 +45,10 @@ fn refusal<L: Ledger, A: Allocator>(
 ) -> Option<Refused> {
     let mut batch = Batch::new();
     let answer = shared.hand_in(rt, sealed, tally, &mut batch);
-    let nothing = tally.count() == 0 && batch.is_empty();
-    answer.err().filter(|_| nothing)
+    match answer {
+        Err(refused) if tally.count() == 0 && batch.is_empty() => Some(refused),
+        _ => None,
+    }
 }
 
 /// Gates 0 and 1 are taken, and 0 is handed in. The holder of 1, a thread, stops the store and ends. Returns the task

@@ -158,17 +158,22 @@ fn open<L: Ledger>(
     Some((Fixture::new(store, first), threads))
 }
 
-/// Three threads sleep at a store, while another thread works there. Returns whether nothing goes wrong, and each of
-/// the three is given this.
+/// Three threads sleep at the store of a fan, while another thread works there. The case is how many readers the fan
+/// has, and what each of the three should be given. Returns whether nothing goes wrong, and each is given that.
 fn are_given<L: Ledger + Send + Sync, R: Threads + Wait + Sync>(
     rt: &R,
-    fixture: &Fixture<L>,
-    threads: &mut [Participant<L>],
-    given: Given,
-) -> bool {
+    alloc: Global,
+    ledger: Blank,
+    case: (u32, Given),
+) -> Result<bool, Fail>
+    requires { IsForStore L.name L.parts ledger }
+{
+    let (readers, given) = case;
+    let opened = open::<L>(alloc, ledger, fan(alloc, readers)?);
+    let (fixture, mut threads) = opened.ok_or("a gate is ready")?;
     thread::for_each_mut(
         rt,
-        threads,
+        threads.as_mut_slice(),
         SLEEPERS + 1,
         &|i: usize, thread: &mut Participant<L>| {
             thread.is_right = if i == 0 {
@@ -178,7 +183,7 @@ fn are_given<L: Ledger + Send + Sync, R: Threads + Wait + Sync>(
             };
         },
     );
-    threads.iter().all(|thread| thread.is_right)
+    Ok(threads.iter().all(|thread| thread.is_right))
 }
 
 /// One hand-in that makes more gates ready than a batch holds wakes one of three threads that sleep, and what that one
@@ -192,9 +197,8 @@ fn each_sleeper_is_woken(rt: HostRuntime) -> Result<(), Fail> {
         (16, Given::NoneBefore),
     ] {
         for _time in 0..10 {
-            let opened = open::<Brand>(rt.alloc(), ledger(), fan(rt.alloc(), readers)?);
-            let (fixture, mut threads) = opened.ok_or("a gate is ready")?;
-            let found = are_given(&rt, &fixture, &mut threads, given);
+            let case = (readers, given);
+            let found = are_given::<Brand, HostRuntime>(&rt, rt.alloc(), ledger(), case)?;
             equal((given, found), (given, true))?;
         }
     }

@@ -190,7 +190,7 @@ fn of_each_size(rt: HostRuntime) -> Result<(), Fail> {
         Shape::Adder,
         Shape::Ands(7),
         Shape::Chains(3, 5),
-        Shape::Mixed(5, 9),
+        Shape::Mixed(5, 17),
     ] {
         in_pieces(rt.alloc(), &circuit_of(rt.alloc(), shape)?)?;
     }
@@ -218,7 +218,7 @@ fn without_and_gates(rt: HostRuntime) -> Result<(), Fail> {
 /// Only the beginning allocates, once.
 #[test]
 fn no_growths_of_pieces(rt: HostRuntime) -> Result<(), Fail> {
-    let circuit = circuit_of(rt.alloc(), Shape::Mixed(5, 9))?;
+    let circuit = circuit_of(rt.alloc(), Shape::Mixed(5, 17))?;
     let heap = Refusing::never(rt.alloc());
     let mut garbler = StreamingGarbler::begin_under_seed(&heap, &circuit, &zero_seed())?;
     let rows = rows_left(rt.alloc(), &circuit, &mut garbler, 3)?;
