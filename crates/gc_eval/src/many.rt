@@ -7,11 +7,11 @@ ghost use Rattle.gc_workers.specs.Workers.{AreFew};
 ghost use Rattle.gc_job.specs.Evaluate.{IsEvaluated};
 ghost use Rattle.gc_job.specs.Honest.{IsHonest};
 ghost use Rattle.gc_eval.specs.Many.{IsEvaluatedBy};
-ghost use Rattle.gc_eval.specs.Seats.{job_on};
 ghost use Rattle.gc_eval.specs.Workers.{IsWorkerOf, AreWorkersOf};
 
 use crate::seat::EvalBoard;
 use crate::worker::{Worker, seats_of, workers_of};
+use gc_circuit::Memory;
 use gc_job::{EvalFault, Job, evaluate};
 use gc_workers::{Gatehouse, MAX_WORKERS, Way, report_all, way_of};
 use std::alloc::Allocator;
@@ -51,55 +51,66 @@ pub fn evaluate_many<
         return Err(EvalFault::BadWorkers);
     }
     job.law_whole();
-    if let Some((board, mut workers)) = manned_board(rt, alloc, job, workers) {
-        work_together(rt, &board, workers.as_mut_slice(), observer);
-        if let Some(bits) = outputs_of(alloc, board, workers)? {
-            return Ok(bits);
+    match evaluate_by_many(rt, alloc, job, workers, observer)? {
+        Some(bits) => Ok(bits),
+        None => {
+            report_all(observer, job.circuit().gates());
+            evaluate(alloc, job)
         }
     }
-    report_all(observer, job.circuit().gates());
-    evaluate(alloc, job)
 }
 
-/// A board for a job with a worker at each seat. There is none where there is no memory for it, or where one thread
-/// does as well.
-fn manned_board<
-    'j,
-    'c,
+/// What the workers evaluate on a board. There is no result where there is no memory for it, or where one thread does as
+/// well.
+fn evaluate_by_many<
     A: Allocator + Send + Sync,
     B: Allocator + Copy + Send + Sync,
     C: Allocator + Send + Sync,
-    R: Threads,
+    H: Gatehouse + Sync,
+    R: Threads + Wait + Sync,
 >(
     rt: &R,
     alloc: B,
-    job: &'j Job<'c, A, C>,
+    job: &Job<'_, A, C>,
     workers: u32,
-) -> Option<(EvalBoard<'j, 'c, B, A, C>, Vec<Worker<B, A, C>, B>)>
+    observer: &H,
+) -> Result<Option<Vec<bool, B>>, EvalFault>
     requires { AreFew workers }
-    ensures job { IfSome result (λ b. job_on b.0 ≡ job.now) }
-    ensures workers { IfSome result (λ b. AreWorkersOf b.0 b.1.items) }
+    ensures ok { IfOk result (λ o. IfSome o (λ v. IsEvaluated job.now (Ok v.items))) }
+    ensures err { IfErr result (λ fault. IsEvaluated job.now (Err fault)) }
 {
-    let Ok(Way::Together) = way_of(alloc, job.circuit(), workers) else {
-        return None;
-    };
-    let (board, seats) = EvalBoard::open_by_two(rt, alloc, job, workers).ok()?;
-    let workers = workers_of(alloc, &board, seats).ok()?;
-    Some((board, workers))
+    match way_of(alloc, job.circuit(), workers) {
+        Ok(Way::Together) => evaluate_together(rt, alloc, job, workers, observer),
+        Ok(Way::Alone) | Err(Memory) => Ok(None),
+    }
 }
 
-/// What the workers of a board have evaluated. There is no result where there is no memory for it, or where an output
-/// wire got no label.
-fn outputs_of<A: Allocator, B: Allocator + Copy, C: Allocator>(
+/// What the workers evaluate on a board. There is no result where there is no memory for it, or where an output wire
+/// got no label.
+fn evaluate_together<
+    A: Allocator + Send + Sync,
+    B: Allocator + Copy + Send + Sync,
+    C: Allocator + Send + Sync,
+    H: Gatehouse + Sync,
+    R: Threads + Sync,
+>(
+    rt: &R,
     alloc: B,
-    board: EvalBoard<'_, '_, B, A, C>,
-    workers: Vec<Worker<B, A, C>, B>,
+    job: &Job<'_, A, C>,
+    workers: u32,
+    observer: &H,
 ) -> Result<Option<Vec<bool, B>>, EvalFault>
-    requires { AreWorkersOf board workers.items }
-    ensures ok { IfOk result (λ o. IfSome o
-        (λ v. IsEvaluated (job_on board.entry) (Ok v.items))) }
-    ensures err { IfErr result (λ fault. IsEvaluated (job_on board.entry) (Err fault)) }
+    requires { AreFew workers }
+    ensures ok { IfOk result (λ o. IfSome o (λ v. IsEvaluated job.now (Ok v.items))) }
+    ensures err { IfErr result (λ fault. IsEvaluated job.now (Err fault)) }
 {
+    let Ok((board, seats)) = EvalBoard::open_by_two(rt, alloc, job, workers) else {
+        return Ok(None);
+    };
+    let Ok(mut workers) = workers_of(alloc, &board, seats) else {
+        return Ok(None);
+    };
+    work_together(rt, &board, workers.as_mut_slice(), observer);
     let Ok(seats) = seats_of(alloc, &board, workers) else {
         return Ok(None);
     };

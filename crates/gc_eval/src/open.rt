@@ -86,8 +86,8 @@ impl<'j, 'c, B: Allocator + Copy, A: Allocator, C: Allocator> EvalBoard<'j, 'c, 
         tables: BoardTables<'c, B, C>,
     ) -> Result<(EvalBoard<'j, 'c, B, A, C>, Vec<EvalSeat<A, C>, B>), OpenFault>
         requires few { (0 < seats) × (seats ≤ MAX_WORKERS) }
-        requires words { tables.entry.words.items ≡ replicate (3 * gates_of job.now + 1) 0 }
-        requires wiring { tables.entry.wiring ≡ job.now.circuit }
+        requires words { tables.words.items ≡ replicate (3 * gates_of job.now + 1) 0 }
+        requires wiring { tables.wiring ≡ job.now.circuit }
         ensures job { IfOk result (λ b. job_on b.0 ≡ job.now) }
         ensures count { IfOk result (λ b. (seats_on b.0 ≡ seats) × (length b.1.items ≡ seats)) }
         ensures seats { IfOk result (λ b. All (λ s. IsSeatOf b.0 s × IsNew (view s)) b.1.items) }
