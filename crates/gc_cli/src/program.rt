@@ -38,79 +38,72 @@ pub const USAGE: u8 = 2;
 /// The status of an audit that has found its files dishonest.
 pub const DISHONEST: u8 = 3;
 
-/// A run on arguments without `--args-from`, of which the first is the program's name.
-#[derive(Drop)]
-pub(crate) struct Run<'a, R, P> {
-    pub(crate) rt: &'a R,
-    pub(crate) words: &'a [String],
-    pub(crate) progress: &'a P,
-}
+/// Does what arguments say, of which the first is the program's name, and returns the status of the run, as
+/// [`serve`](crate::serve) does for arguments without `--args-from`.
+pub(crate) fn serve_arguments<R: Threads + Wait + Sync, F: Reread, O: Write, E: Write, P: Progress>(
+    rt: &R,
+    heap: &mut Heap,
+    words: &[String],
+    files: &mut F,
+    console: &mut Console<O, E>,
+    progress: &P,
+) -> u8
+    ensures status { result ≤ DISHONEST }
 
-impl<R: Threads + Wait + Sync, P: Progress> Run<'_, R, P> {
-    /// Does what the arguments say, and returns the status of the run, as [`serve`](crate::serve) does.
-    pub(crate) fn serve<F: Reread, O: Write, E: Write>(
-        &self,
-        heap: &mut Heap,
-        files: &mut F,
-        console: &mut Console<O, E>,
-    ) -> u8
-        ensures status { result ≤ DISHONEST }
+    ensures done { result ≡ DONE → IsDone (F.bytes files.old) (F.bytes files.new)
+        (map string_bytes words.now) console.old.out console.new.out }
+    ensures no_errors { result ≡ DONE → console.new.err ≡ console.old.err }
+    ensures dishonest { result ≡ DISHONEST
+        → FindsDishonest (F.bytes files.old) (F.bytes files.new)
+        (map string_bytes words.now) console.old.out console.new.out }
+    ensures no_errors_of_audit { result ≡ DISHONEST → console.new.err ≡ console.old.err }
 
-        ensures done { result ≡ DONE → IsDone (F.bytes files.old) (F.bytes files.new)
-            (map string_bytes self.now.words.now) console.old.out console.new.out }
-        ensures no_errors { result ≡ DONE → console.new.err ≡ console.old.err }
-        ensures dishonest { result ≡ DISHONEST
-            → FindsDishonest (F.bytes files.old) (F.bytes files.new)
-            (map string_bytes self.now.words.now) console.old.out console.new.out }
-        ensures no_errors_of_audit { result ≡ DISHONEST → console.new.err ≡ console.old.err }
+    ensures fault { result ≡ FAULT → EndsByFault (F.bytes files.old) (F.bytes files.new)
+        (HasFailed (F.failures files.old) (F.failures files.new))
+        (map string_bytes words.now) console.old.explains
+        console.old.out console.new.out console.old.err console.new.err }
 
-        ensures fault { result ≡ FAULT → EndsByFault (F.bytes files.old) (F.bytes files.new)
-            (HasFailed (F.failures files.old) (F.failures files.new))
-            (map string_bytes self.now.words.now) console.old.explains
-            console.old.out console.new.out console.old.err console.new.err }
+    // Arguments that neither are an order nor ask for a text: only they, where there was memory to read them, and all
+    // of them.
+    ensures usage { result ≡ USAGE
+        → IsMistaken (map string_bytes words.now) ⊎ (heap.old < heap.new) }
+    ensures mistaken { IsMistaken (map string_bytes words.now) → result ≡ USAGE }
+    ensures no_output { result ≡ USAGE → console.new.out ≡ console.old.out }
 
-        // Arguments that neither are an order nor ask for a text: only they, where there was memory to read them, and
-        // all of them.
-        ensures usage { result ≡ USAGE
-            → IsMistaken (map string_bytes self.now.words.now) ⊎ (heap.old < heap.new) }
-        ensures mistaken { IsMistaken (map string_bytes self.now.words.now) → result ≡ USAGE }
-        ensures no_output { result ≡ USAGE → console.new.out ≡ console.old.out }
-
-        // A file changes only where the arguments are an order that writes it, and by `fault` is as it was at a fault.
-        ensures others { (name : List ℕ) → ¬ AskToWrite (map string_bytes self.now.words.now) name
-            → F.bytes files.new name ≡ F.bytes files.old name }
-        ensures unwritten { result ≡ USAGE
-            → (name : List ℕ) → F.bytes files.new name ≡ F.bytes files.old name }
-    {
-        let (alloc, before) = (heap.alloc(), files.log().opened());
-        let context = Context {
-            rt: self.rt,
-            alloc,
-            progress: self.progress,
-        };
-        match heap.order(self.words) {
-            Ok(asked) => match print_answer(&context, &asked.order, files, &mut console.out) {
-                Ok(true) => DONE,
-                Ok(false) => DISHONEST,
-                Err(fault) => {
-                    let ended = Ended {
-                        alloc,
-                        order: &asked.order,
-                        files: &*files,
-                        opened: files.log().opened().saturating_sub(before),
-                        printing: console.out.cause(),
-                    };
-                    report_order(fault, &ended, asked.explains, console)
-                }
-            },
-            Err(help) if !help.use_stderr() => match write!(console.out, "{help}") {
-                Ok(()) => DONE,
-                Err(_) => report(Fault::CannotWrite, &mut console.err),
-            },
-            Err(error) => {
-                let _ = write!(console.err, "{error}");
-                USAGE
+    // A file changes only where the arguments are an order that writes it, and by `fault` is as it was at a fault.
+    ensures others { (name : List ℕ) → ¬ AskToWrite (map string_bytes words.now) name
+        → F.bytes files.new name ≡ F.bytes files.old name }
+    ensures unwritten { result ≡ USAGE
+        → (name : List ℕ) → F.bytes files.new name ≡ F.bytes files.old name }
+{
+    let (alloc, before) = (heap.alloc(), files.log().opened());
+    let context = Context {
+        rt,
+        alloc,
+        progress,
+    };
+    match heap.order(words) {
+        Ok(asked) => match print_answer(&context, &asked.order, files, &mut console.out) {
+            Ok(true) => DONE,
+            Ok(false) => DISHONEST,
+            Err(fault) => {
+                let ended = Ended {
+                    alloc,
+                    order: &asked.order,
+                    files: &*files,
+                    opened: files.log().opened().saturating_sub(before),
+                    printing: console.out.cause(),
+                };
+                report_order(fault, &ended, asked.explains, console)
             }
+        },
+        Err(help) if !help.use_stderr() => match write!(console.out, "{help}") {
+            Ok(()) => DONE,
+            Err(_) => report(Fault::CannotWrite, &mut console.err),
+        },
+        Err(error) => {
+            let _ = write!(console.err, "{error}");
+            USAGE
         }
     }
 }

@@ -12,7 +12,7 @@ ghost use Rattle.gc_cli.specs.WholeRun.{EndsByRefusal, IsOf, LackFile, PrintsNoF
 use crate::arguments::{Refusal, arguments_of, stand_for_themselves};
 use crate::command_line::Heap;
 use crate::output::{Console, Output};
-use crate::program::{DISHONEST, DONE, FAULT, Run, USAGE, report};
+use crate::program::{DISHONEST, DONE, FAULT, USAGE, report, serve_arguments};
 use gc_command::{Fault, Progress};
 use gc_disk::Reread;
 use std::io::{self, Write};
@@ -95,22 +95,10 @@ pub fn serve<R: Threads + Wait + Sync, F: Reread, O: Write, E: Write, P: Progres
         → (name : List ℕ) → F.bytes files.new name ≡ F.bytes files.old name }
 {
     if stand_for_themselves(words) {
-        let run = Run {
-            rt,
-            words,
-            progress,
-        };
-        return run.serve(heap, files, console);
+        return serve_arguments(rt, heap, words, files, console, progress);
     }
     match arguments_of(heap.alloc(), words, files) {
-        Ok(arguments) => {
-            let run = Run {
-                rt,
-                words: &arguments,
-                progress,
-            };
-            run.serve(heap, files, console)
-        }
+        Ok(arguments) => serve_arguments(rt, heap, &arguments, files, console, progress),
         Err(Refusal::NoFile) => lack_file(&mut console.err),
         Err(Refusal::CannotRead) => report(Fault::CannotRead, &mut console.err),
         Err(Refusal::Memory) => report(Fault::Memory, &mut console.err),

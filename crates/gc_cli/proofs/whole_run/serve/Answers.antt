@@ -9,7 +9,7 @@ returns-then-stand_for_themselves-clause-done g c = λ is. (
   map string_bytes c.args.words.now,
   (
     themselves-stand _ _ (c.stand_for_themselves.ensures.yes c.if-stand_for_themselves.true),
-    c.serve.ensures.done is,
+    c.serve_arguments.ensures.done is,
   ),
 )
 
@@ -19,7 +19,7 @@ returns-then-stand_for_themselves-clause-dishonest g c = λ is. (
   map string_bytes c.args.words.now,
   (
     themselves-stand _ _ (c.stand_for_themselves.ensures.yes c.if-stand_for_themselves.true),
-    c.serve.ensures.dishonest is,
+    c.serve_arguments.ensures.dishonest is,
   ),
 )
 
@@ -30,7 +30,7 @@ returns-then-stand_for_themselves-clause-fault g c = λ is.
       map string_bytes c.args.words.now,
       (
         themselves-stand _ _ (c.stand_for_themselves.ensures.yes c.if-stand_for_themselves.true),
-        c.serve.ensures.fault is,
+        c.serve_arguments.ensures.fault is,
       ),
     )
 
@@ -40,7 +40,7 @@ returns-then-stand_for_themselves-clause-usage g c = λ is.
     let stand = themselves-stand _ _
     (c.stand_for_themselves.ensures.yes c.if-stand_for_themselves.true) in
     ⊎_elim (λ mistaken. inl (map string_bytes c.args.words.now, (stand, mistaken)))
-    (λ short. inr (inr short)) (c.serve.ensures.usage is)
+    (λ short. inr (inr short)) (c.serve_arguments.ensures.usage is)
 
 pub returns-then-stand_for_themselves-clause-mistaken :
     goal.returns-then-stand_for_themselves-clause-mistaken
@@ -48,7 +48,7 @@ returns-then-stand_for_themselves-clause-mistaken g c = inl (
   map string_bytes c.args.words.now,
   (
     themselves-stand _ _ (c.stand_for_themselves.ensures.yes c.if-stand_for_themselves.true),
-    c.serve.ensures.mistaken,
+    c.serve_arguments.ensures.mistaken,
   ),
 )
 
@@ -57,7 +57,7 @@ pub returns-then-stand_for_themselves-clause-others :
 returns-then-stand_for_themselves-clause-others g c = λ name none.
     let stand = themselves-stand _ _
     (c.stand_for_themselves.ensures.yes c.if-stand_for_themselves.true) in
-    c.serve.ensures.others name
+    c.serve_arguments.ensures.others name
     (λ asks. none (map string_bytes c.args.words.now, (stand, asks)))
 
 pub returns-in-Ok-clause-done : goal.returns-in-Ok-clause-done
@@ -66,7 +66,7 @@ returns-in-Ok-clause-done g c = λ is.
       map string_bytes c.in-Ok.arguments.items,
       (
         c.in-Ok.ensures.given,
-        rw (same, c.deref.ensures.value) at (c.serve-in-Ok.ensures.done is),
+        rw (same, c.deref.ensures.value) at (c.serve_arguments-in-Ok.ensures.done is),
       ),
     )
 
@@ -76,7 +76,7 @@ returns-in-Ok-clause-dishonest g c = λ is.
       map string_bytes c.in-Ok.arguments.items,
       (
         c.in-Ok.ensures.given,
-        rw (same, c.deref.ensures.value) at (c.serve-in-Ok.ensures.dishonest is),
+        rw (same, c.deref.ensures.value) at (c.serve_arguments-in-Ok.ensures.dishonest is),
       ),
     )
 
@@ -88,6 +88,6 @@ returns-in-Ok-clause-fault g c = λ is.
       (
         c.in-Ok.ensures.given,
         rw (same, c.deref.ensures.value, c.in-Ok.ensures.unfailed)
-            at (c.serve-in-Ok.ensures.fault is),
+            at (c.serve_arguments-in-Ok.ensures.fault is),
       ),
     )

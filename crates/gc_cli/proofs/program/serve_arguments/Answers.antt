@@ -3,7 +3,7 @@ use Rattle.clap.specs.Words.{kind_of}
 use Rattle.gc_order.specs.Order.{text_of}
 use Rattle.gc_command.specs.declared.fault.Fault.TheVariants.{CannotWrite}
 use Rattle.gc_cli.proofs.MistakeLemmas.{IsMistaken-other_kind}
-use Rattle.gc_cli.proofs.program.Run.serve.Goals as goal
+use Rattle.gc_cli.proofs.program.serve_arguments.Goals as goal
 
 pub returns-in-Ok-clause-fault : goal.returns-in-Ok-clause-fault
 returns-in-Ok-clause-fault g c = λ _. (
@@ -32,7 +32,7 @@ returns-clause-usage g c = λ _.
     let other = c.use_stderr.ensures.0 c.if-not-use_stderr.false in
     ⊎_elim
     (λ listed.
-    inl (IsMistaken-other_kind (map string_bytes c.args.self.now.words.now) (kind_of c.in-Err.help) listed.0
+    inl (IsMistaken-other_kind (map string_bytes c.args.words.now) (kind_of c.in-Err.help) listed.0
     other.0 other.1))
     (λ short. inr (omega (arith, short.1)))
     c.in-Err.ensures.err
