@@ -2,8 +2,9 @@
 //! languages hands out. Bits are bytes here, 0 and 1, and files are bytes in memory.
 //!
 //! A [`KeptCircuit`] has its digest once that is taken. A [`KeptGarbling`] and a [`KeptJob`] share their circuit. A
-//! garbling is made under a seed, or from an offset and labels of the caller's; circuits that follow one another are garbled and
-//! evaluated from labels to labels. A [`KeptGarbler`] gives its row pairs in pieces, and a [`KeptEvaluator`] takes them so.
+//! garbling is made under a seed, or from an offset and labels of the caller's; circuits that follow one another are
+//! garbled and evaluated from labels to labels. A [`KeptGarbler`] gives its row pairs in pieces, and a
+//! [`KeptEvaluator`] takes them so.
 #![tactic(auto)]
 
 mod audit;
