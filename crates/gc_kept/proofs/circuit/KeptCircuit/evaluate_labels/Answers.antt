@@ -16,5 +16,5 @@ write_labels-requires-clause-whole c =
       ap and_count begun.circuit,
       ap and_count c.circuit-circuit.ensures.same,
       c.and_count-and_gates.ensures,
-      c.if-rows-and_gates.false,
+      c.if-given-and_gates.false,
     )
