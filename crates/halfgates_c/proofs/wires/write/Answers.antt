@@ -9,7 +9,7 @@ use Rattle.halfgates_c.proofs.wires.write.Goals as goal
 pub write_wires-requires-clause-bits : goal.write_wires-requires-clause-bits
 write_wires-requires-clause-bits c =
     let all = c.in_ok-all.ensures.ok.meaning in
-    let n : ℕ = c.circuit-circuit.result.now.wires in
+    let n : ℕ = c.circuit-circuit.result.now.netlist.wires in
     omega (
       arith,
       ap length c.deref.ensures.value,
@@ -17,7 +17,7 @@ write_wires-requires-clause-bits c =
       length-map (range_with_len 0 n) all.bits,
       length-range_with_len 0 n,
       c.law_garbled.ensures.wires,
-      ap (λ (x : Netlist). x.wires) c.circuit-circuit.ensures,
+      ap (λ (x : Netlist). x.wires) c.circuit-circuit.ensures.netlist,
     )
 
 pub write_wires-requires-clause-few : goal.write_wires-requires-clause-few
@@ -26,7 +26,7 @@ write_wires-requires-clause-few c =
       arith,
       write_wires-requires-clause-bits c,
       c.law_garbled.ensures.wires,
-      ap (λ (x : Netlist). x.wires) c.circuit-circuit.ensures,
+      ap (λ (x : Netlist). x.wires) c.circuit-circuit.ensures.netlist,
       c.wires-wires.ensures.count,
       c.wires-wires.type_inv,
     )
