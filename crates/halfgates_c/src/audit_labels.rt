@@ -1,12 +1,11 @@
 //! Comparing label files with a garbling.
 
-ghost use Rattle.std.specs.Prelude.{◌≡◌, ◌≢◌, IfErr, IfOk, OnErr, OnOk, length, pos};
+ghost use Rattle.std.specs.Prelude.{◌≡◌, ◌≢◌, IfErr, OnErr, OnOk, length, pos};
 ghost use Rattle.core.specs.Ptr.{as_mut_ptr};
 ghost use denote.RawPtr.{Testable};
 ghost use Rattle.halfgates_c.specs.Holding.{OfGarbling};
 ghost use Rattle.halfgates_c.specs.Answers.{Answers};
-ghost use Rattle.halfgates_c.specs.LabelsReports.{AreFoundAt, HasNoRoomFor, HasReportFault, IsLabelsReportOn, IsReportOf, SaysVerdict};
-ghost use Rattle.gc_kept.specs.Audit.{HasLabelsAuditFault};
+ghost use Rattle.halfgates_c.specs.LabelsReports.{AreFoundAt, HasNoRoomFor, HasReportFault, IsLabelsReportOn, SaysVerdict};
 
 use crate::code::{NULL_POINTER, code_of};
 use crate::handle::{Handle, on_held};
@@ -62,20 +61,25 @@ fn write_found(found: &LabelsVerdict<Global>, bits: &mut [u8]) -> Result<(), Kep
     Ok(())
 }
 
-/// Compares a label file with a garbling, and writes a report.
+/// Compares a label file with a garbling, and writes a report and the bits that are found.
 fn audit(
     alloc: Global,
     garbling: &KeptGarbling,
     file: &[u8],
+    bits: &mut [u8],
     report: &mut LabelsReport,
-) -> Result<LabelsVerdict<Global>, KeptFault>
-    ensures ok { IfOk result (λ found. IsReportOf garbling.now file.now found report.new) }
-    ensures fault { IfErr result (HasLabelsAuditFault file.now) }
-    ensures unreported { OnErr result (report.new ≡ report.old) }
+) -> Result<(), KeptFault>
+    ensures ok { OnOk result
+        (IsLabelsReportOn garbling.now file.now bits.old bits.new report.new) }
+    ensures fault { IfErr result
+        (HasReportFault garbling.now file.now (length bits.old) report.new) }
+    ensures unwritten { OnErr result (bits.new ≡ bits.old) }
+    ensures unreported { IfErr result (λ fault.
+        fault ≢ KeptFault.SmallBuffer → report.new ≡ report.old) }
 {
     let (index, found) = garbling.audit_labels(alloc, file)?;
     *report = report_of(index, &found);
-    Ok(found)
+    write_found(&found, bits)
 }
 
 /// Compares a label file with a garbling.
@@ -98,8 +102,7 @@ pub extern "C" fn halfgates_audit_labels(
     if is_null(report) {
         return NULL_POINTER;
     }
-    on_held!(garbling, Garbling(garbling) => match audit(alloc, garbling, file, report) {
-        Ok(found) => code_of(write_found(&found, bits)),
-        Err(fault) => code_of(Err(fault)),
+    on_held!(garbling, Garbling(garbling) => {
+        code_of(audit(alloc, garbling, file, bits, report))
     })
 }

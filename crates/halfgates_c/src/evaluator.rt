@@ -12,8 +12,24 @@ use crate::code::{NULL_POINTER, WRONG_HANDLE, code_of};
 use crate::handle::{Handle, on_held};
 use crate::null::is_null;
 use crate::slot::Slot;
-use gc_kept::{Held, KeptEvaluator, KeptFault};
+use gc_kept::{Held, KeptCircuit, KeptEvaluator, KeptFault};
 use std::alloc::Global;
+
+/// Begins to evaluate a circuit on labels, and hands the evaluator out.
+fn begin(
+    alloc: Global,
+    circuit: &KeptCircuit,
+    first: u64,
+    labels: &[u8],
+    slot: &mut Slot,
+) -> Result<(), KeptFault>
+    ensures ok { OnOk result (HoldsBegunOn circuit.now.netlist first labels.now slot.new) }
+    ensures fault { IfErr result (HasBeginFault circuit.now.netlist first labels.now) }
+    ensures kept { OnErr result (slot.new ≡ slot.old) }
+{
+    let evaluator = circuit.begin_evaluating(alloc, first, labels)?;
+    slot.hand_out(alloc, Held::Evaluator(evaluator))
+}
 
 /// Begins to evaluate a circuit on active labels of all input wires.
 #[unsafe(no_mangle)]
@@ -35,10 +51,7 @@ pub extern "C" fn halfgates_evaluator_begin(
         return NULL_POINTER;
     }
     on_held!(circuit, Circuit(circuit) => {
-        match circuit.begin_evaluating(alloc, first, labels) {
-            Ok(begun) => code_of(evaluator.hand_out(alloc, Held::Evaluator(begun))),
-            Err(fault) => code_of(Err(fault)),
-        }
+        code_of(begin(alloc, circuit, first, labels, evaluator))
     })
 }
 

@@ -2,7 +2,6 @@
 
 ghost use Rattle.std.specs.Prelude.{◌≡◌, ◌≢◌, IfErr, IfOk, OnErr, OnOk, length, pos};
 ghost use Rattle.std.specs.List.{AllZip};
-ghost use Rattle.gc_kept.specs.Garbling.{IsWantOfMemory};
 ghost use Rattle.halfgates_c.specs.Answers.{Answers};
 ghost use Rattle.halfgates_c.specs.Holding.{OfKept};
 ghost use Rattle.halfgates_c.specs.Reading.{HasManyFault, HoldsGarbling, HoldsThis};
@@ -42,31 +41,23 @@ fn give(mut handles: Vec<Slot, Global>, slots: &mut [Slot])
     }
 }
 
-/// Garbles a circuit under each seed, and makes a handle of each garbling.
+/// Garbles a circuit under each seed, and hands the garblings out: all of them or none.
 fn garble_many(
     alloc: Global,
     circuit: &KeptCircuit,
     seeds: &[[u8; 32]],
     pace: Pace,
-) -> Result<Vec<Slot, Global>, KeptFault>
-    ensures ok { IfOk result (λ handles.
-        AllZip (HoldsGarbling circuit.now) seeds.now handles.items) }
-    ensures fault { IfErr result IsWantOfMemory }
-{
-    let garblings = circuit.garble_many(alloc, seeds, pace)?;
-    handles_of(alloc, garblings)
-}
-
-/// Hands out the handles, all of them or none. It refuses another number of pointers (60).
-fn hand_out(handles: Vec<Slot, Global>, slots: &mut [Slot]) -> Result<(), KeptFault>
-    ensures ok { OnOk result (slots.new ≡ handles.items) }
-    ensures fault { IfErr result (λ fault.
-        (fault ≡ KeptFault.BadArgument) × (length handles.items ≢ length slots.old)) }
+    slots: &mut [Slot],
+) -> Result<(), KeptFault>
+    ensures ok { OnOk result (AllZip (HoldsGarbling circuit.now) seeds.now slots.new) }
+    ensures fault { IfErr result (HasManyFault (length seeds.now) (length slots.old)) }
     ensures kept { OnErr result (slots.new ≡ slots.old) }
 {
-    if handles.len() != slots.len() {
+    if slots.len() != seeds.len() {
         return Err(KeptFault::BadArgument);
     }
+    let garblings = circuit.garble_many(alloc, seeds, pace)?;
+    let handles = handles_of(alloc, garblings)?;
     give(handles, slots);
     Ok(())
 }
@@ -91,8 +82,7 @@ pub extern "C" fn halfgates_garble_many(
     } else {
         Pace::Two
     };
-    on_held!(circuit, Circuit(circuit) => match garble_many(alloc, circuit, seeds, pace) {
-        Ok(handles) => code_of(hand_out(handles, garblings)),
-        Err(fault) => code_of(Err(fault)),
+    on_held!(circuit, Circuit(circuit) => {
+        code_of(garble_many(alloc, circuit, seeds, pace, garblings))
     })
 }

@@ -1,16 +1,14 @@
 //! The labels of wires.
 
-ghost use Rattle.std.specs.Prelude.{◌≡◌, ◌≢◌, ◌+◌, ◌-◌, ◌≤◌, ◌<◌, IfErr, IfOk, OnOk, length, pos};
-ghost use Rattle.gc_kept.specs.Wires.{AreBitsOn};
+ghost use Rattle.std.specs.Prelude.{◌≡◌, ◌≢◌, ◌+◌, ◌≤◌, ◌<◌, IfErr, OnErr, OnOk, length, pos};
 ghost use Rattle.halfgates_c.specs.Holding.{OfGarbling};
 ghost use Rattle.halfgates_c.specs.Answers.{Answers};
 ghost use Rattle.halfgates_c.specs.WireLabels.{AreLabelsFrom, AreLabelsOn, AreWireLabels, HasWiresFault};
 
-use crate::code::{OK, code_of};
+use crate::code::code_of;
 use crate::handle::{Handle, on_held};
 use gc_kept::{KeptFault, KeptGarbling};
 use std::alloc::Global;
-use std::ops::Range;
 
 /// The labels of a wire: `halfgates_wire_labels`.
 #[repr(C)]
@@ -49,28 +47,29 @@ fn write_wires(garbling: &KeptGarbling, all: &[bool], from: u32, labels: &mut [W
     }
 }
 
-/// The bits on all wires of a garbling, for the bits of all input wires. It refuses wires that aren't all there (60).
-fn wire_bits(
+/// Writes the labels of wires of a garbling, for the bits of all input wires.
+fn write(
     alloc: Global,
     garbling: &KeptGarbling,
     bits: &[u8],
-    wires: Range<usize>,
-) -> Result<Vec<bool, Global>, KeptFault>
-    requires { wires.start ≤ wires.end }
-    ensures within { OnOk result (wires.end ≤ length garbling.now.garbling.zero_labels) }
-    ensures bits { IfOk result (λ all. AreBitsOn garbling.now.circuit bits.now all.items) }
-    ensures count { IfOk result (λ all.
-        length all.items ≡ length garbling.now.garbling.zero_labels) }
-    ensures few { IfOk result (λ all. length all.items < 4294967296) }
+    from: u32,
+    labels: &mut [WireLabels],
+) -> Result<(), KeptFault>
+    ensures ok { OnOk result (AreLabelsOn garbling.now bits.now from labels.new) }
+    ensures count { length labels.new ≡ length labels.old }
     ensures fault { IfErr result
-        (HasWiresFault garbling.now bits.now wires.start (wires.end - wires.start)) }
+        (HasWiresFault garbling.now bits.now from (length labels.old)) }
+    ensures unwritten { OnErr result (labels.new ≡ labels.old) }
 {
     garbling.law_garbled();
     let circuit = garbling.circuit();
-    if wires.end > circuit.circuit().wires() as usize {
+    let wires = circuit.circuit().wires() as usize;
+    if from as usize > wires || labels.len() > wires - from as usize {
         return Err(KeptFault::BadArgument);
     }
-    circuit.wire_bits(alloc, bits)
+    let all = circuit.wire_bits(alloc, bits)?;
+    write_wires(garbling, &all, from, labels);
+    Ok(())
 }
 
 /// Writes the labels of the wires from one on.
@@ -89,12 +88,7 @@ pub extern "C" fn halfgates_labels(
     ensures kept { result ≢ pos 0 → labels.new ≡ labels.old }
     ensures back { garbling.new ≡ garbling.old }
 {
-    let wires = from as usize..from as usize + labels.len();
-    on_held!(garbling, Garbling(garbling) => match wire_bits(alloc, garbling, bits, wires) {
-        Ok(all) => {
-            write_wires(garbling, &all, from, labels);
-            OK
-        }
-        Err(fault) => code_of(Err(fault)),
+    on_held!(garbling, Garbling(garbling) => {
+        code_of(write(alloc, garbling, bits, from, labels))
     })
 }
