@@ -1,15 +1,16 @@
 -- The wires of a circuit that are set, one after another.
-use Rattle.std.proofs.Common.{◌≡◌, ℕ, zero, suc, ◌+◌, ◌-◌, ◌<◌, ◌≤◌, Bool, true, false, List, ◌∷◌, length, map, take, filter, set, get_or, slice_get, slice_index_or, Some, refl, arith}
+use Rattle.std.proofs.Common.{◌≡◌, ℕ, zero, suc, ◌+◌, ◌-◌, ◌<◌, ◌≤◌, ◌++◌, Bool, true, false, List, [], ◌∷◌, length, count_by, map, take, filter, set, get_or, slice_get, slice_index_or, Some, refl, arith}
 use Rattle.std.specs.List.{range_with_len}
 use Rattle.std.proofs.lemmas.Grind.{common_steps}
 use Rattle.std.proofs.lemmas.Option.{slice_get_within, get_or_from_slice_get, gets}
 use Rattle.std.proofs.lemmas.List.{take_more}
 use Rattle.std.proofs.lemmas.List.FromFn.{get_or-map-range_with_len, length-map-range_with_len}
 use Rattle.gc_netlist.specs.declared.gate.Gate.{Gate}
-use Rattle.gc_netlist.specs.Circuit.{Netlist, input_wires}
+use Rattle.gc_netlist.specs.Circuit.{Netlist, input_wires, is_and}
 use Rattle.gc_netlist.specs.Reading.{is_set}
 use Rattle.gc_command.specs.Labels.{WiresLeft, set_from}
-use Rattle.gc_circuit.proofs.CheckLemmas.{marks_more}
+use Rattle.gc_circuit.specs.Gates.{AreMarked}
+use Rattle.gc_circuit.proofs.CheckLemmas.{marked_more, marks_len}
 
 module _ (test : ℕ → Bool) where
   opened : (i n : ℕ) → i < n → range_with_len i (n - i) ≡ i ∷ range_with_len (i + 1) (n - (i + 1))
@@ -50,8 +51,13 @@ pub flags_more : (inputs n i : ℕ) (gates : List Gate) (g : Gate) (flags : List
     → set flags g.set true ≡ map (is_set inputs (take (i + 1) gates)) (range_with_len 0 n)
 flags_more inputs n i gates g flags at below is =
     let within : i < length gates = slice_get_within gates i g at in
-    rw (take_more gates i g within, get_or_from_slice_get gates i g g at)
-    (marks_more inputs n (take i gates) g flags is below)
+    let before = take i gates in
+    let marked : AreMarked n inputs before flags (count_by (λ (x : Gate). is_and x.operation) before)
+    = record { table = is; counted = refl } in
+    let more : take (i + 1) gates ≡ before ++ g ∷ [] =
+    rw (take_more gates i g within, get_or_from_slice_get gates i g g at) refl in
+    (marked_more n inputs before _ flags _ _ _ g (omega (arith, below, marks_len inputs n before flags is))
+    more refl refl marked).table
 
 abbrev pub wires_left : ℕ → List ℕ → WiresLeft
 wires_left n ws = record { wires = n; left = ws }
