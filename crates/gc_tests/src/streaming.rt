@@ -117,7 +117,12 @@ fn garbles_in_pieces(
         first,
     };
     let whole = garble_from(alloc, circuit, start)?;
-    let mut garbler = StreamingGarbler::begin(alloc, circuit, start)?;
+    let again = Start {
+        offset,
+        zero_labels: &given,
+        first,
+    };
+    let mut garbler = StreamingGarbler::begin(alloc, circuit, again)?;
     let begun = zero_labels_of(alloc, circuit, &garbler)?;
     equal(begun.starts_with(&given), true)?;
     let rows = rows_left(alloc, circuit, &mut garbler, size)?;
