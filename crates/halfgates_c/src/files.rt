@@ -14,7 +14,7 @@ ghost use Rattle.halfgates_c.specs.Holding.{OfCircuit, OfGarbling, circuit_of};
 use crate::code::{BAD_ARGUMENT, NULL_POINTER, code_of};
 use crate::handle::{Handle, on_held};
 use crate::null::is_null;
-use gc_kept::version_of;
+use gc_kept::{KeptGarbling, version_of};
 use std::alloc::Global;
 
 /// Writes the canonical text of a circuit.
@@ -55,6 +55,26 @@ pub extern "C" fn halfgates_garbled_size(circuit: &mut Handle, version: u32) -> 
 }
 
 /// Writes the garbled file of a version.
+fn write_version(
+    alloc: Global,
+    garbling: &KeptGarbling,
+    version: u32,
+    buffer: &mut [u8],
+    written: &mut usize,
+) -> i32
+    ensures answer { MatchOption (version_of version) (result ≡ pos 60) (λ v.
+        Answers result (IsGarbledAt garbling.now v buffer.old buffer.new written.new)
+        (HasFileFault garbling.now v (length buffer.old) written.new)) }
+    ensures kept { result ≢ pos 0 → buffer.new ≡ buffer.old }
+    ensures unreported { result ≢ pos 0 → result ≢ pos 61 → written.new ≡ written.old }
+{
+    match version_of(version) {
+        Some(version) => code_of(garbling.write(alloc, version, buffer, written)),
+        None => BAD_ARGUMENT,
+    }
+}
+
+/// Writes the garbled file of a garbling.
 #[unsafe(no_mangle)]
 pub extern "C" fn halfgates_garbling_write(
     alloc: Global,
@@ -75,9 +95,8 @@ pub extern "C" fn halfgates_garbling_write(
     if is_null(written) {
         return NULL_POINTER;
     }
-    on_held!(garbling, Garbling(garbling) => match version_of(version) {
-        Some(version) => code_of(garbling.write(alloc, version, buffer, written)),
-        None => BAD_ARGUMENT,
+    on_held!(garbling, Garbling(garbling) => {
+        write_version(alloc, garbling, version, buffer, written)
     })
 }
 
