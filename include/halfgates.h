@@ -40,10 +40,9 @@
  * may be used by another thread once that thread knows that the call has returned.
  *
  * STACK. As measured on x86-64, halfgates_job_bind uses 53 kilobytes of stack, halfgates_garbling_write 41,
- * halfgates_audit 41, halfgates_write_many 37, halfgates_circuit_order 22, halfgates_circuit_read 22,
- * halfgates_circuit_read_without_digest 22, halfgates_circuit_from_gates 22,
- * halfgates_circuit_from_gates_without_digest 22, halfgates_evaluator_feed 12, halfgates_evaluate_labels 12,
- * halfgates_garbler_next 11, halfgates_circuit_text 9, and every other call less than 5.
+ * halfgates_audit 41, halfgates_write_many 37, halfgates_circuit_read 22, halfgates_circuit_order 22,
+ * halfgates_circuit_from_gates 22, halfgates_circuit_take_digest 22, halfgates_evaluator_feed 12,
+ * halfgates_evaluate_labels 12, halfgates_garbler_next 11, halfgates_circuit_text 9, and every other call less than 5.
  *
  * BUFFERS. The library reads and writes buffers within a call and keeps no pointer to them. Buffers of bytes need no
  * alignment. A buffer that is written overlaps no other argument, and has at least the room that is needed, else the
