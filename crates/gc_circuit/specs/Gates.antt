@@ -9,7 +9,7 @@ use Rattle.gc_netlist.specs.Reading.{is_set}
 abbrev pub with_gates : Netlist → List Gate → Netlist
 with_gates c gates = netlist_of c.wires c.input_widths c.output_widths gates
 
--- The table marks the wires that are set after these gates, of which so many are AND gates.
+-- The table marks the wires that are set after these gates, and the number is that of their AND gates.
 pub record AreMarked (wires inputs : ℕ) (gates : List Gate) (set : List Bool) (ands : ℕ)
     : Type 0 where
   pub table : set ≡ map (is_set inputs gates) (range_with_len 0 wires)

@@ -60,8 +60,8 @@ pub fn evaluate_many<
     }
 }
 
-/// What the workers evaluate on a board. There is no result where there is no memory for it, or where one thread does as
-/// well.
+/// What the workers evaluate on a board. There is no result where there is no memory for it, or where one thread does
+/// as well.
 fn evaluate_by_many<
     A: Allocator + Send + Sync,
     B: Allocator + Copy + Send + Sync,

@@ -64,8 +64,8 @@ fn are_reported<R: AllocGlobal + Threads + Wait + Sync>(
     })
 }
 
-/// Once on one thread; at a board, with gates of each operation and where gates are stepped one, two and four at once, at
-/// least once.
+/// Once on one thread; at a board, with gates of each operation and where gates are stepped one, two and four at once,
+/// at least once.
 #[test]
 fn each_gate_is_reported(rt: HostRuntime) -> Result<(), Fail> {
     let alloc = rt.alloc();

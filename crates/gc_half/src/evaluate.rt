@@ -79,8 +79,8 @@ pub fn output_labels<'l, C: Allocator>(circuit: &Circuit<C>, labels: &'l [Label]
     last
 }
 
-/// The table after the gates from `from` on, until all these row pairs are used, and up to the next AND gate or the end;
-/// and the place of that gate in the file. The caller ensures that there are as many gates, that those before are
+/// The table after the gates from `from` on, until all these row pairs are used, and up to the next AND gate or the
+/// end; and the place of that gate in the file. The caller ensures that there are as many gates, that those before are
 /// evaluated in the table, and that there are as many AND gates left.
 pub(crate) fn evaluate_piece<A: Allocator, C: Allocator>(
     circuit: &Circuit<C>,

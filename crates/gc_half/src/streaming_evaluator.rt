@@ -18,8 +18,8 @@ use std::alloc::{Allocator, Global};
 use std::marker::Model;
 use std::mem;
 
-/// An evaluation in progress, in file order. It uses the row pairs as they come, and doesn't keep them: it has an active
-/// label of 16 bytes for each wire, and nothing else that grows with the circuit. Only beginning allocates.
+/// An evaluation in progress, in file order. It uses the row pairs as they come, and doesn't keep them: it has an
+/// active label of 16 bytes for each wire, and nothing else that grows with the circuit. Only beginning allocates.
 #[derive(Drop)]
 pub struct StreamingEvaluator<A: Allocator = Global> {
     first: FirstAnd,
@@ -85,8 +85,8 @@ impl<A: Allocator + Copy> StreamingEvaluator<A> {
         self.advance(circuit, rows);
     }
 
-    /// Evaluates the next AND gates, as [`feed`](StreamingEvaluator::feed) does. The caller ensures that the first gates
-    /// of this circuit are evaluated, up to any one, and that as many AND gates are left.
+    /// Evaluates the next AND gates, as [`feed`](StreamingEvaluator::feed) does. The caller ensures that the first
+    /// gates of this circuit are evaluated, up to any one, and that as many AND gates are left.
     fn advance<C: Allocator>(&mut self, circuit: &Circuit<C>, rows: &[RowPair])
         requires begun { IsBegunEvaluator circuit.now self.old }
         requires room { self.old.used + length rows.now ≤ and_count circuit.now }

@@ -98,8 +98,10 @@ impl<'c, A: Allocator, C: Allocator> Job<'c, A, C> {
     ) -> (Label, Label)
         requires gates { (one.now.gate < gates_of self.now) × (other.now.gate < gates_of self.now) }
         requires wiring { wiring.now ≡ self.now.circuit }
-        ensures one { result.0 ≡ active_from self.now one.now.gate one.now.first one.now.second }
-        ensures other { result.1 ≡ active_from self.now other.now.gate other.now.first other.now.second }
+        ensures one { result.0
+            ≡ active_from self.now one.now.gate one.now.first one.now.second }
+        ensures other { result.1
+            ≡ active_from self.now other.now.gate other.now.first other.now.second }
     {
         match (self.and_step(wiring, one), self.and_step(wiring, other)) {
             (Some(step), Some(other_step)) => eval_two_ands(step, other_step),

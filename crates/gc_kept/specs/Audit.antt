@@ -21,8 +21,8 @@ use Rattle.gc_kept.specs.Bits.{HasBitsFault}
 use Rattle.gc_kept.specs.Garbling.{GarblingWith, HasFiles, HasNoFiles}
 use Rattle.gc_kept.specs.Labels.{AreRows}
 
--- The garbling has garbled files, and the bytes are one of this version, of which this is found; nothing differs exactly
--- where it is honest.
+-- The garbling has garbled files, and the bytes are one of this version, of which this is found; nothing differs
+-- exactly where it is honest.
 pub record IsAuditOf (g : GarblingWith) (bytes : List ℕ) (version : Version)
     (audit : GarbledAudit) : Type 0 where
   pub has : HasFiles g

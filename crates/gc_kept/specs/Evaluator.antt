@@ -25,8 +25,8 @@ pub record IsBegunOn (c : Netlist) (first : ℕ) (labels : List ℕ) (e : Evalua
   pub inputs_are : AreLabels labels inputs
   pub begun : IsEvaluatedSoFar c inputs [] e.evaluator
 
--- The fault of beginning it: other labels than one for each input wire, then an AND number that is too large. Memory may
--- be missing instead.
+-- The fault of beginning it: other labels than one for each input wire, then an AND number that is too large. Memory
+-- may be missing instead.
 abbrev pub HasBeginFault : Netlist → ℕ → List ℕ → KeptFault → Type 0
 HasBeginFault c first labels WrongSize = length labels ≢ 16 * input_wires c
 HasBeginFault c first labels BadArgument =

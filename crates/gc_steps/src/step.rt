@@ -95,7 +95,8 @@ impl<'w, 'c, J: Jobs, R: Frame<J>, B: Allocator, A: Allocator, C: Allocator> Rou
         ensures answer { Answers R.layout self.now.job.now self.now.number ready.now.gate 4
             place.old.me.0 place.new.me.0 result }
         ensures alone { IsAlone place.old.me.0
-            → pairs self.now.number ready.now.gate place.old.me.0.inner.made ≡ 0 → IsMadeNow result }
+            → pairs self.now.number ready.now.gate place.old.me.0.inner.made ≡ 0
+            → IsMadeNow result }
     {
         if let Some(answer) = self.take(place, ready.gate, ready.free) {
             return answer;

@@ -20,8 +20,8 @@ pub(crate) struct Shared<'a, L: Ledger, A: Allocator, H, R> {
     pub observer: &'a H,
 }
 
-/// What a worker has of its own: the place of its pool among all pools, its number, its tally with the tasks that it has
-/// claimed, its pool's owner, a thief at each other pool, and room for tasks that it has sealed and not handed in.
+/// What a worker has of its own: the place of its pool among all pools, its number, its tally with the tasks that it
+/// has claimed, its pool's owner, a thief at each other pool, and room for tasks that it has sealed and not handed in.
 #[derive(Drop)]
 pub(crate) struct Worker<L: Ledger, A: Allocator> {
     pub place: usize,
