@@ -74,6 +74,13 @@ impl<A: Allocator> ActiveTable<A> {
         ensures waiting { (w : ℕ) → w ≢ gate.set → NoneSets w self.old.waiting
             → NoneSets w self.new.waiting }
     {
+        // Most gates are XOR. In a branch of its own the compiler knows the operation, and tests it once.
+        if let Operation::Xor(_, _) = gate.operation {
+            self.make_read(gate.operation);
+            let (a, b) = self.read(gate.operation);
+            self.put(gate.set, a.xor(b));
+            return;
+        }
         self.make_read(gate.operation);
         let read = self.read(gate.operation);
         if gate.operation.is_and() {

@@ -101,6 +101,13 @@ impl<A: Allocator> ZeroTable<A> {
         ensures waiting { (w : ℕ) → w ≢ gate.set → NoneSets w self.old.waiting
             → NoneSets w self.new.waiting }
     {
+        // A branch of its own for XOR, as where gates are evaluated.
+        if let Operation::Xor(_, _) = gate.operation {
+            self.make_read(rows, gate.operation);
+            let (a, b) = self.read(gate.operation);
+            self.put(gate.set, a.xor(b));
+            return;
+        }
         self.make_read(rows, gate.operation);
         let read = self.read(gate.operation);
         if let Operation::And(_, _) = gate.operation {
