@@ -13,15 +13,8 @@ ghost use Rattle.gc_audit.specs.Rows.{IsAndGate, DifferIn, IsRowDifference};
 use gc_circuit::Circuit;
 use gc_file::read_rows;
 use gc_file::sizes::PAIR;
-use gc_half::{Garbling, Mismatch, RowPair};
-use gc_label::Label;
+use gc_half::{Garbling, Mismatch, NO_ROWS, RowPair};
 use std::alloc::Allocator;
-
-/// What is in the place of a row pair before it is read.
-const NO_ROWS: RowPair = RowPair {
-    generator: Label::ZERO,
-    evaluator: Label::ZERO,
-};
 
 /// Which rows of two row pairs differ.
 #[derive(Clone, Copy, PartialEq, Eq, Debug)]

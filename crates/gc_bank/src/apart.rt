@@ -5,10 +5,9 @@ ghost use Rattle.gc_job.specs.Jobs.{AreKnown};
 ghost use Rattle.gc_bank.specs.Jobs.{AreOnOneCircuit};
 ghost use Rattle.gc_bank.specs.Workers.{AreKnownFrom};
 
-use crate::crew::Crew;
 use gc_job::{Job, MAX_GROUP, evaluate_group, none_known};
 use gc_rounds::MAX_JOBS;
-use gc_workers::Gatehouse;
+use gc_workers::{Crew, Gatehouse};
 use std::alloc::Allocator;
 use std::thread;
 use std::thread::Threads;

@@ -5,11 +5,10 @@ ghost use Rattle.std.specs.Result.{result_map_both};
 ghost use Rattle.gc_bank.specs.Jobs.{AreOnOneCircuit, AreEvaluatedBy};
 
 use crate::apart::evaluate_apart;
-use crate::crew::Crew;
 use crate::together::evaluate_together;
 use gc_job::{EvalFault, Job, evaluate_rest};
 use gc_rounds::MAX_JOBS;
-use gc_workers::{Gatehouse, MAX_WORKERS, Way, way_of};
+use gc_workers::{Crew, Gatehouse, MAX_WORKERS, Way, way_of};
 use std::alloc::Allocator;
 use std::thread::Threads;
 

@@ -6,7 +6,6 @@
 
 mod apart;
 mod banks;
-mod crew;
 mod jobs;
 mod open;
 mod same_circuit;

@@ -8,12 +8,11 @@ ghost use Rattle.gc_bank.specs.Seats.{jobs_on};
 ghost use Rattle.gc_job.specs.Jobs.{AreBitsOf, AreKnown};
 ghost use Rattle.gc_bank.specs.Workers.{IsWorkerOf, AreWorkersOf};
 
-use crate::crew::Crew;
 use crate::seat::Banks;
 use crate::worker::{Outputs, Worker, workers_of};
 use gc_job::{Job, none_known};
 use gc_rounds::MAX_JOBS;
-use gc_workers::Gatehouse;
+use gc_workers::{Crew, Gatehouse};
 use std::alloc::Allocator;
 use std::thread;
 use std::thread::Threads;

@@ -13,7 +13,7 @@ use crate::seat::EvalBoard;
 use crate::worker::{Worker, seats_of, workers_of};
 use gc_circuit::Memory;
 use gc_job::{EvalFault, Job, evaluate};
-use gc_workers::{Gatehouse, MAX_WORKERS, Way, report_all, way_of};
+use gc_workers::{Crew, Gatehouse, MAX_WORKERS, Way, report_all, way_of};
 use std::alloc::Allocator;
 use std::sync::Wait;
 use std::thread;
@@ -51,7 +51,13 @@ pub fn evaluate_many<
         return Err(EvalFault::BadWorkers);
     }
     job.law_whole();
-    match evaluate_by_many(rt, alloc, job, workers, observer)? {
+    let crew = Crew {
+        rt,
+        alloc,
+        workers,
+        observer,
+    };
+    match evaluate_by_many(&crew, job)? {
         Some(bits) => Ok(bits),
         None => {
             report_all(observer, job.circuit().gates());
@@ -68,19 +74,13 @@ fn evaluate_by_many<
     C: Allocator + Send + Sync,
     H: Gatehouse + Sync,
     R: Threads + Wait + Sync,
->(
-    rt: &R,
-    alloc: B,
-    job: &Job<'_, A, C>,
-    workers: u32,
-    observer: &H,
-) -> Result<Option<Vec<bool, B>>, EvalFault>
-    requires { AreFew workers }
+>(crew: &Crew<'_, B, H, R>, job: &Job<'_, A, C>) -> Result<Option<Vec<bool, B>>, EvalFault>
+    requires { AreFew crew.now.workers }
     ensures ok { IfOk result (λ o. IfSome o (λ v. IsEvaluated job.now (Ok v.items))) }
     ensures err { IfErr result (λ fault. IsEvaluated job.now (Err fault)) }
 {
-    match way_of(alloc, job.circuit(), workers) {
-        Ok(Way::Together) => evaluate_together(rt, alloc, job, workers, observer),
+    match way_of(crew.alloc, job.circuit(), crew.workers) {
+        Ok(Way::Together) => evaluate_together(crew, job),
         Ok(Way::Alone) | Err(Memory) => Ok(None),
     }
 }
@@ -93,24 +93,19 @@ fn evaluate_together<
     C: Allocator + Send + Sync,
     H: Gatehouse + Sync,
     R: Threads + Sync,
->(
-    rt: &R,
-    alloc: B,
-    job: &Job<'_, A, C>,
-    workers: u32,
-    observer: &H,
-) -> Result<Option<Vec<bool, B>>, EvalFault>
-    requires { AreFew workers }
+>(crew: &Crew<'_, B, H, R>, job: &Job<'_, A, C>) -> Result<Option<Vec<bool, B>>, EvalFault>
+    requires { AreFew crew.now.workers }
     ensures ok { IfOk result (λ o. IfSome o (λ v. IsEvaluated job.now (Ok v.items))) }
     ensures err { IfErr result (λ fault. IsEvaluated job.now (Err fault)) }
 {
-    let Ok((board, seats)) = EvalBoard::open_by_two(rt, alloc, job, workers) else {
+    let alloc = crew.alloc;
+    let Ok((board, seats)) = EvalBoard::open_by_two(crew.rt, alloc, job, crew.workers) else {
         return Ok(None);
     };
     let Ok(mut workers) = workers_of(alloc, &board, seats) else {
         return Ok(None);
     };
-    work_together(rt, &board, workers.as_mut_slice(), observer);
+    work_together(crew, &board, workers.as_mut_slice());
     let Ok(seats) = seats_of(alloc, &board, workers) else {
         return Ok(None);
     };
@@ -124,39 +119,39 @@ fn evaluate_together<
 /// one can be started. When all have ended, the last one learns what the others know and makes one further pass.
 fn work_together<
     A: Allocator + Send + Sync,
-    B: Allocator + Send + Sync,
+    B: Allocator + Copy + Send + Sync,
     C: Allocator + Send + Sync,
     H: Gatehouse + Sync,
     R: Threads + Sync,
->(rt: &R, board: &EvalBoard<'_, '_, B, A, C>, workers: &mut [Worker<B, A, C>], observer: &H)
+>(crew: &Crew<'_, B, H, R>, board: &EvalBoard<'_, '_, B, A, C>, workers: &mut [Worker<B, A, C>])
     requires { AreWorkersOf board.now workers.old }
     ensures { AreWorkersOf board.now workers.new }
 {
-    all_work(rt, board, workers, observer);
+    all_work(crew, board, workers);
     if let Some((last, others)) = workers.split_last_mut() {
-        last.finish(board, observer, others);
+        last.finish(board, crew.observer, others);
     }
 }
 
 /// All workers work, each on a thread.
 fn all_work<
     A: Allocator + Send + Sync,
-    B: Allocator + Send + Sync,
+    B: Allocator + Copy + Send + Sync,
     C: Allocator + Send + Sync,
     H: Gatehouse + Sync,
     R: Threads + Sync,
->(rt: &R, board: &EvalBoard<'_, '_, B, A, C>, workers: &mut [Worker<B, A, C>], observer: &H)
+>(crew: &Crew<'_, B, H, R>, board: &EvalBoard<'_, '_, B, A, C>, workers: &mut [Worker<B, A, C>])
     requires { AreWorkersOf board.now workers.old }
     ensures { AreWorkersOf board.now workers.new }
 {
     let count = workers.len().max(1);
     thread::for_each_mut(
-        rt,
+        crew.rt,
         workers,
         count,
         &|_i: usize, worker: &mut Worker<B, A, C>|
             requires { IsWorkerOf board.now worker.now }
             ensures { IsWorkerOf board.entry.now worker.exit.now }
-        { worker.work(board, observer) },
+        { worker.work(board, crew.observer) },
     );
 }

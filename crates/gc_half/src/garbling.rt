@@ -18,7 +18,7 @@ pub struct RowPair {
 }
 
 /// What stands in the place of a row pair that isn't made yet.
-pub(crate) const NO_ROWS: RowPair = RowPair {
+pub const NO_ROWS: RowPair = RowPair {
     generator: Label::ZERO,
     evaluator: Label::ZERO,
 };

@@ -50,7 +50,7 @@ pub use evaluate::{Evaluation, evaluate_from, evaluate_labels, output_labels};
 pub use first::FirstAnd;
 pub use four::{Four, evaluate_four_from};
 pub use garble::{Start, garble_from, garble_one_thread};
-pub use garbling::{GarbledAnd, Garbling, Mismatch, RowPair};
+pub use garbling::{GarbledAnd, Garbling, Mismatch, NO_ROWS, RowPair};
 pub use half_gate::{
     AndGate, AndStep, eval_and, eval_four_ands, eval_two_ands, garble_and, garble_two_ands,
 };

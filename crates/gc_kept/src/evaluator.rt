@@ -5,7 +5,7 @@ ghost use Rattle.gc_netlist.specs.Circuit.{and_count, input_wires, output_wires}
 ghost use Rattle.gc_job.specs.declared.fault.EvalFault.TheVariants as eval;
 ghost use Rattle.gc_kept.specs.Evaluator.{IsBegunOn, HasBeginFault, UsesRows, UsesWhole, HasFeedFault, IsUsed, AreFoundLabels, HasFoundFault};
 
-use crate::chunk::{CHUNK, NO_ROWS};
+use crate::CHUNK;
 use crate::circuit::KeptCircuit;
 use crate::fault::KeptFault;
 use crate::from_labels::NO_MEMORY;
@@ -13,7 +13,7 @@ use crate::label_bytes::write_labels;
 use crate::room::has_room;
 use gc_file::sizes::{LABEL, PAIR};
 use gc_file::{labels_from_bytes, read_rows};
-use gc_half::{FirstAnd, RowPair, StreamingEvaluator};
+use gc_half::{FirstAnd, NO_ROWS, RowPair, StreamingEvaluator};
 use std::alloc::Global;
 use std::marker::Model;
 

@@ -9,7 +9,7 @@ ghost use Rattle.gc_kept.specs.Garbler.{AreGivenLabels, AreMadeLabels, HasMadeLa
 ghost use Rattle.gc_kept.specs.Labels.{HasFromLabelsFault, HasValueLabelsFault};
 
 use crate::both::{labels_of, put_colours, write_both};
-use crate::chunk::{CHUNK, NO_ROWS};
+use crate::CHUNK;
 use crate::circuit::KeptCircuit;
 use crate::fault::KeptFault;
 use crate::given::StartBytes;
@@ -18,7 +18,7 @@ use crate::room::has_room;
 use crate::values::sum_of;
 use gc_file::first_wire;
 use gc_file::sizes::PAIR;
-use gc_half::{RowPair, Start, StreamingGarbler};
+use gc_half::{NO_ROWS, RowPair, Start, StreamingGarbler};
 use gc_job::BindFault;
 use gc_label::Seed;
 use std::alloc::Global;

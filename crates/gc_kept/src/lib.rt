@@ -10,7 +10,6 @@
 mod audit;
 mod bits;
 mod both;
-mod chunk;
 mod circuit;
 mod each;
 mod evaluator;
@@ -52,3 +51,6 @@ pub use job::{JobBytes, KeptJob};
 pub use jobs::evaluate_list;
 pub use many::Pace;
 pub use version::version_of;
+
+/// How many row pairs are made or used at a time.
+const CHUNK: usize = 256;

@@ -6,7 +6,7 @@ ghost use Rattle.gc_store.specs.Beginning.{Begins, Queues, Tabulates};
 use crate::queue::Queue;
 use crate::tables::opening_countdowns;
 use gc_circuit::{Circuit, Memory};
-use gc_half::{RowPair, Table, and_numbers, input_zero_labels};
+use gc_half::{NO_ROWS, RowPair, Table, and_numbers, input_zero_labels};
 use gc_label::{Label, Seed};
 use std::alloc::Allocator;
 use std::marker::Model;
@@ -55,14 +55,10 @@ impl<A: Allocator + Copy> LabelTables<A> {
         ensures { IfOk result
             (λ t. Tabulates circuit.now seed.now t.and_numbers.items t.zero_labels.items t.rows) }
     {
-        let no_rows = RowPair {
-            generator: Label::ZERO,
-            evaluator: Label::ZERO,
-        };
         Ok(LabelTables {
             and_numbers: and_numbers(alloc, circuit)?,
             zero_labels: input_zero_labels(alloc, circuit, seed)?,
-            rows: Table::open(alloc, no_rows, circuit.and_count())?,
+            rows: Table::open(alloc, NO_ROWS, circuit.and_count())?,
         })
     }
 }

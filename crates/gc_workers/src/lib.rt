@@ -3,12 +3,14 @@
 //! why these can't be opened or closed, and sums over lists.
 #![tactic(auto)]
 
+mod crew;
 mod fault;
 mod gatehouse;
 mod number_set;
 mod states;
 mod way;
 
+pub use crew::Crew;
 pub use fault::{CloseRefused, OpenFault};
 pub use gatehouse::{Gatehouse, Open, report_all};
 pub use number_set::NumberSet;
