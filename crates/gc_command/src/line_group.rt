@@ -40,8 +40,10 @@ impl<'a, P: Progress> LineSteps<'a, P> {
 }
 
 impl<'c, A: Allocator + Copy> Binder<'c, A> {
-    /// The jobs that at most eight lines name. Of one line each file is checked before the next is opened. The caller
-    /// ensures that the digest is the circuit's, and that each line has a token.
+    /// The jobs that at most eight lines name. Of one line each file is checked before the next is opened. The files of
+    /// several are read in turn, up to the first fault of one that can't be read, or of a label file. Then their
+    /// garbled files are digested side by side, and checked and bound in turn: so the fault is that of the first line
+    /// that names no job. The caller ensures that the digest is the circuit's, and that each line has a token.
     pub fn read_group<F: Files, P: Progress>(
         &self,
         lines: &[&str],
@@ -65,30 +67,6 @@ impl<'c, A: Allocator + Copy> Binder<'c, A> {
             jobs.push(self.read_job(line, files)?)?;
             return Ok(jobs);
         }
-        self.read_ahead(lines, files, steps)
-    }
-
-    /// The jobs that at most eight lines name, as [`read_group`](Self::read_group) returns them. The files of the lines
-    /// are read in turn, up to the first fault of one that can't be read, or of a label file. Then their garbled files
-    /// are digested side by side, and checked and bound in turn: so the fault is that of the first line that names no
-    /// job.
-    fn read_ahead<F: Files, P: Progress>(
-        &self,
-        lines: &[&str],
-        files: &mut F,
-        steps: &LineSteps<'_, P>,
-    ) -> Result<Vec<Job<'c, A, A>, A>, Fault>
-        requires count { length lines.now ≤ SIDE_BY_SIDE }
-        requires digest { self.now.digest.now ≡ sha256 (canonical_text self.now.circuit.now) }
-        requires words { All (λ words. 0 < length words) (map (λ line. tokens line.now) lines.now) }
-        ensures named { IfOk result (λ jobs. NameJobs (F.bytes files.old) self.now.circuit.now
-            (map (λ line. tokens line.now) lines.now) jobs.items) }
-        ensures fault { IfErr result (HasLinesFault (F.bytes files.old)
-            (HasFailed (F.failures files.old) (F.failures files.new)) self.now.circuit.now
-            (map (λ line. tokens line.now) lines.now)) }
-        ensures counted { OnOk result (F.failures files.new ≡ F.failures files.old) }
-        ensures same { (n : List ℕ) → F.bytes files.new n ≡ F.bytes files.old n }
-    {
         let read = read_lines(self.alloc, lines, files, steps)?;
         let trailers = trailers_due(self.alloc, &read)?;
         self.jobs_of_files(read, &trailers)

@@ -1,6 +1,6 @@
 //! Output labels that a garbled file doesn't recognise.
 
-ghost use Rattle.std.specs.Prelude.{◌≡◌, ◌==◌, ℕ, List, true, map, IfOk, IfSome, string_bytes};
+ghost use Rattle.std.specs.Prelude.{◌≡◌, ◌==◌, ℕ, List, map, IfOk, IfSome, string_bytes};
 ghost use Rattle.std.specs.List.{slice_split};
 ghost use Rattle.sha2.specs.Sha256.{sha256};
 ghost use Rattle.gc_netlist.specs.Canon.{canonical_text};
@@ -10,7 +10,7 @@ ghost use Rattle.gc_file.specs.LabelFile.{IsLabelFile};
 ghost use Rattle.gc_order.specs.Order.{text_of};
 ghost use Rattle.gc_command.specs.CircuitFile.{IsCircuit};
 ghost use Rattle.gc_command.specs.Eval.{AreLabelFiles};
-ghost use Rattle.gc_explain.specs.Output.{HasEvaluationFault, HasUnknownOutput, IsJobPlace, IsOutputPlace, IsUnknownLine};
+ghost use Rattle.gc_explain.specs.Output.{HasEvaluationFault, IsJobPlace, IsOutputPlace, IsUnknownLine};
 
 use crate::ended::Ended;
 use crate::sentence::{Explanation, file_place, line_place, on_file};
@@ -70,8 +70,12 @@ impl<A: Allocator + Copy, F: Reread> Ended<'_, A, F> {
         };
         let lines = lines_of(self.alloc, text).ok()?;
         for (i, line) in lines.iter().enumerate() {
-            if self.has_unknown_output(&circuit, &digest, line, output) {
-                return Some(i as u64 + 1);
+            if let Some(EvalFault::UnknownOutputLabel { output: found }) =
+                self.fault_of_line(&circuit, &digest, line)
+            {
+                if found == output {
+                    return Some(i as u64 + 1);
+                }
             }
         }
         None
@@ -89,27 +93,8 @@ impl<A: Allocator + Copy, F: Reread> Ended<'_, A, F> {
         }
     }
 
-    /// Whether the job that a line names has this unknown output label. The caller ensures that this is the digest of
-    /// the circuit's canonical text.
-    fn has_unknown_output(
-        &self,
-        circuit: &Circuit<A>,
-        digest: &[u8; 32],
-        line: &str,
-        output: u32,
-    ) -> bool
-        requires { digest.now ≡ sha256 (canonical_text circuit.now) }
-        ensures { result ≡ true → HasUnknownOutput (F.bytes self.now.files.now) circuit.now
-            (tokens line.now) output }
-    {
-        match self.fault_of_line(circuit, digest, line) {
-            Some(EvalFault::UnknownOutputLabel { output: found }) => found == output,
-            _ => false,
-        }
-    }
-
-    /// The fault of evaluating the job that a line names, under the same condition. There is none where the line names
-    /// no job, or one that is evaluated.
+    /// The fault of evaluating the job that a line names. There is none where the line names no job, or one that is
+    /// evaluated. The caller ensures that this is the digest of the circuit's canonical text.
     fn fault_of_line(
         &self,
         circuit: &Circuit<A>,

@@ -1,6 +1,8 @@
 use Rattle.std.proofs.Common.{arith}
 use Rattle.gc_netlist.specs.Text.{tokens}
+use Rattle.gc_command.proofs.JobsNames.{IfOk-weaker, IfErr-weaker}
 use Rattle.gc_command.proofs.JobsLemmas.{only-named, only-words}
+use Rattle.gc_command.proofs.LineLemmas.{made-named, making-fault}
 use Rattle.gc_command.proofs.binder.Binder.read_group.Goals as goal
 
 pub read_job-requires-clause-words : goal.read_job-requires-clause-words
@@ -14,3 +16,18 @@ returns-in-len1-clause-named g c =
     (only-named (g.F.Files.bytes c.args.files.now) c.args.self.now.circuit.now (λ line. tokens line.now)
     c.args.lines.now _ c.in_ok-read_job.field-0 (omega (arith, c.in-len1.len_at_least))
     (omega (arith, c.in-len1.len_below)) c.in_ok-read_job.ensures.named)
+
+pub returns-clause-named : goal.returns-clause-named
+returns-clause-named g c = IfOk-weaker c.jobs_of_files.result _ _
+    (λ jobs made. (made-named _ _ _ _ _ _ _ c.in_ok-read.ensures.read made).0)
+    c.jobs_of_files.ensures.made
+
+pub returns-clause-fault : goal.returns-clause-fault
+returns-clause-fault g c = IfErr-weaker c.jobs_of_files.result _ _
+    (λ fault has. making-fault _ _ _ _ _ _ c.in_ok-read.ensures.read fault has)
+    c.jobs_of_files.ensures.fault
+
+pub returns-clause-counted : goal.returns-clause-counted
+returns-clause-counted g c = IfOk-weaker c.jobs_of_files.result _ _
+    (λ jobs made. (made-named _ _ _ _ _ _ _ c.in_ok-read.ensures.read made).1)
+    c.jobs_of_files.ensures.made
