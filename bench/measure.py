@@ -27,6 +27,12 @@ BY_DEPTH = {
     if command.startswith("examples/")
 }
 
+# Two of them once, which the caches of a processor hold.
+ONCE_BY_DEPTH = {
+    "SHA-256's compression, by depth": "examples/make_circuits.py sha256 FILE --by-depth",
+    "AES-128, by depth": "examples/make_circuits.py aes128 FILE --by-depth",
+}
+
 # Garbling and evaluating, on one thread and by one, two and four workers.
 PARTS = ["garble", "garble1", "garble2", "garble4", "job", "job1", "job2", "job4"]
 

@@ -6,13 +6,22 @@
 BENCH is gc_bench. It prints three tables of docs/SPEED.md, of the fastest of nine runs on one
 thread: a garbling alone, and each of two side by side; a job alone, and each of four side by side.
 The second has what an AND gate takes, beside its hashes alone, eight at once: four to garble it, and
-two to evaluate it. The third has SHA-256 of a garbled file alone, and of each of eight side by side.
+two to evaluate it. A list has the same of circuits by depth, where only these three parts take turns.
+The third has SHA-256 of a garbled file alone, and of each of eight side by side.
 """
 
 import sys
 import tempfile
 
-from measure import BY_DEPTH, CIRCUITS, make, print_cells, print_columns, times
+from measure import (
+    BY_DEPTH,
+    CIRCUITS,
+    ONCE_BY_DEPTH,
+    make,
+    print_cells,
+    print_columns,
+    times,
+)
 
 # How long one of several side by side may take at the most, in times one alone.
 MOST = {
@@ -48,7 +57,7 @@ def main():
     print_columns("Nanoseconds an AND gate", *columns)
     for name, row in rows.items():
         print_cells(name, *[f"{it:.0f}" for it in row])
-    print_against_hashes({name: row for name, row in rows.items() if name in BY_DEPTH})
+    print_by_depth(bench)
     print_columns("Milliseconds", "SHA-256 of a file", "Each of eight", "Ratio", "By `sha2`")
     for name, took in hashed.items():
         alone, beside, kit = took["file_sha"], took["eight_sha"] / 8, took["kit_sha"]
@@ -56,14 +65,21 @@ def main():
         print_cells(name, *cells, f"{kit / 1e6:.2f}")
 
 
-def print_against_hashes(rows):
+def print_by_depth(bench):
     """Prints what an AND gate takes by depth, in times its hashes."""
-    most, most_evaluated = MOST_BY_DEPTH
-    for name, (garbled, _, four, evaluated, _, two) in rows.items():
-        print(
-            f"{name}: {garbled / four:.2f} times the hashes to garble (at most {most}),"
-            f" {evaluated / two:.2f} to evaluate (at most {most_evaluated})"
-        )
+    garble, evaluate = MOST_BY_DEPTH
+    with tempfile.TemporaryDirectory() as folder:
+        file = f"{folder}/circuit"
+        for name, command in {**ONCE_BY_DEPTH, **BY_DEPTH}.items():
+            make(command, file)
+            repeats = 99 if name in ONCE_BY_DEPTH else 9
+            took = times(bench, file, repeats, "garble", "job", "eight_lanes")
+            garbled, evaluated, hashes = took["garble"], took["job"], took["eight_lanes"]
+            print(
+                f"{name}: {garbled / hashes:.2f} times the hashes to garble (at most {garble}),"
+                f" {2 * evaluated / hashes:.2f} to evaluate (at most {evaluate})",
+                flush=True,
+            )
 
 
 def print_ratios(name, took):
