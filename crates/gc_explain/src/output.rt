@@ -70,9 +70,8 @@ impl<A: Allocator + Copy, F: Reread> Ended<'_, A, F> {
         };
         let lines = lines_of(self.alloc, text).ok()?;
         for (i, line) in lines.iter().enumerate() {
-            if let Some(EvalFault::UnknownOutputLabel { output: found }) =
-                self.fault_of_line(&circuit, &digest, line)
-            {
+            let fault = self.fault_of_line(&circuit, &digest, line);
+            if let Some(EvalFault::UnknownOutputLabel { output: found }) = fault {
                 if found == output {
                     return Some(i as u64 + 1);
                 }

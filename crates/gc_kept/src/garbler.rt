@@ -8,8 +8,8 @@ ghost use Rattle.gc_kept.specs.Garbler.{IsBegunUnder, IsBegunFrom, MakesPiece, I
 ghost use Rattle.gc_kept.specs.Garbler.{AreGivenLabels, AreMadeLabels, HasMadeLabelsFault, AreMadeBits, HasMadeBitsFault};
 ghost use Rattle.gc_kept.specs.Labels.{HasFromLabelsFault, HasValueLabelsFault};
 
-use crate::both::{labels_of, put_colours, write_both};
 use crate::CHUNK;
+use crate::both::{labels_of, put_colours, write_both};
 use crate::circuit::KeptCircuit;
 use crate::fault::KeptFault;
 use crate::given::StartBytes;
