@@ -34,15 +34,15 @@
  *
  * THREADS. No function starts a thread, takes a lock or waits. A call with a const handle only reads it, so any number
  * of them may use one handle at once, on any threads, and none fails because another is running. The others need their
- * handle alone: halfgates_garbler_next and halfgates_evaluator_feed change a garbler or an evaluator, so make them when
- * no other call uses it; its circuit is only read, and stays shared. Free a handle when no call uses it, and no call
- * comes after. What a call writes, such as a new handle, may be used by another thread once that thread knows that the
- * call has returned.
+ * handle alone: halfgates_garbler_next, halfgates_evaluator_feed and halfgates_circuit_take_digest change a garbler, an
+ * evaluator or a handle of a circuit, so make them when no other call uses it; the circuit itself is only read, and
+ * stays shared. Free a handle when no call uses it, and no call comes after. What a call writes, such as a new handle,
+ * may be used by another thread once that thread knows that the call has returned.
  *
  * STACK. As measured on x86-64, halfgates_job_bind uses 53 kilobytes of stack, halfgates_garbling_write 41,
  * halfgates_audit 41, halfgates_write_many 37, halfgates_circuit_read 22, halfgates_circuit_order 22,
- * halfgates_circuit_from_gates 22, halfgates_evaluator_feed 12, halfgates_evaluate_labels 12, halfgates_garbler_next
- * 11, halfgates_circuit_text 9, and every other call less than 5.
+ * halfgates_circuit_from_gates 22, halfgates_circuit_take_digest 22, halfgates_evaluator_feed 12,
+ * halfgates_evaluate_labels 12, halfgates_garbler_next 11, halfgates_circuit_text 9, and every other call less than 5.
  *
  * BUFFERS. The library reads and writes buffers within a call and keeps no pointer to them. Buffers of bytes need no
  * alignment. A buffer that is written overlaps no other argument, and has at least the room that is needed, else the
@@ -76,6 +76,12 @@
  *     garbler: begin, offset and input labels, next .. next, output labels, decode bits, free
  *     evaluator: begin with active labels, feed .. feed, output labels, free
  *
+ * DIGESTS. Only the garbled files name their circuit, by its digest. A circuit that is read or made without its digest
+ * does all the rest, and reading takes less time. What needs a digest returns HALFGATES_NO_DIGEST for a circuit, or a
+ * garbling of a circuit, that has none: halfgates_circuit_digest, halfgates_garbling_write, halfgates_write_many,
+ * halfgates_job_bind and halfgates_audit. halfgates_circuit_take_digest computes it later. A garbling has the digest
+ * that its circuit had when it was garbled.
+ *
  * SECRETS. Whoever has a seed, an offset, a garbling or a garbler knows all labels. No branch and no address depends on
  * seeds, offsets, labels or bits, beyond what codes and outputs say, and memory is wiped before it is freed. This is
  * tested, for x86-64, and not proved; the audits are left out. The stack and your buffers aren't wiped. SECURITY.md
@@ -90,7 +96,7 @@
 /* The version of this header. That of the library is halfgates_version(). */
 #define HALFGATES_VERSION_MAJOR 0
 #define HALFGATES_VERSION_MINOR 9
-#define HALFGATES_VERSION_PATCH 7
+#define HALFGATES_VERSION_PATCH 8
 
 #ifdef __cplusplus
 extern "C" {
@@ -151,8 +157,9 @@ enum {
     HALFGATES_NULL_POINTER = 64, /* a NULL for a handle, a buffer with a size or a place to write to */
     HALFGATES_WRONG_HANDLE = 65, /* a handle of another type, such as a garbling in place of a circuit */
     HALFGATES_WRONG_SIZE = 66,   /* a buffer that is read has a wrong size */
-    HALFGATES_UNFINISHED = 67    /* row pairs are left: a garbler hasn't made all of them, or an evaluator hasn't taken
+    HALFGATES_UNFINISHED = 67,   /* row pairs are left: a garbler hasn't made all of them, or an evaluator hasn't taken
                                     all of them */
+    HALFGATES_NO_DIGEST = 68     /* the circuit has no digest, which this call needs */
 };
 
 /* A name or a version, ended by a zero byte. */
@@ -169,12 +176,12 @@ halfgates_name halfgates_fault_name(int32_t code);
 /* Whether a code says that memory ran out: 1 for 13, 23, 36, 46 and 62, and else 0. */
 int32_t halfgates_is_memory(int32_t code);
 
-/* The version of the library, such as "0.9.7". */
+/* The version of the library, such as "0.9.8". */
 halfgates_name halfgates_version(void);
 
 /* ---------------------------------------------------------------------------------------------------- circuits -- */
 
-/* A circuit, with its digest. */
+/* A circuit, with its digest or without. */
 typedef struct halfgates_circuit halfgates_circuit;
 
 /*
@@ -184,8 +191,21 @@ typedef struct halfgates_circuit halfgates_circuit;
 int32_t halfgates_circuit_read(const uint8_t *text, size_t length, halfgates_circuit **circuit);
 
 /*
- * Writes one more handle of the same circuit, without a copy: for a thread that frees its own. Each handle is freed by
- * halfgates_circuit_free; the circuit is freed with the last. Code: HALFGATES_MEMORY.
+ * Reads a circuit as halfgates_circuit_read does, without computing its digest, which takes longer than reading. The
+ * codes are the same. See DIGESTS.
+ */
+int32_t halfgates_circuit_read_without_digest(const uint8_t *text, size_t length, halfgates_circuit **circuit);
+
+/*
+ * Computes the digest of a circuit, where it has none. It allocates nothing. This call needs the handle alone: other
+ * handles of the circuit, and the garblings made before, stay without.
+ */
+int32_t halfgates_circuit_take_digest(halfgates_circuit *circuit);
+
+/*
+ * Writes one more handle of the same circuit, without a copy: for a thread that frees its own. It has a digest exactly
+ * where the given one has. Each handle is freed by halfgates_circuit_free; the circuit is freed with the last. Code:
+ * HALFGATES_MEMORY.
  */
 int32_t halfgates_circuit_share(const halfgates_circuit *circuit, halfgates_circuit **other);
 
@@ -194,7 +214,8 @@ int32_t halfgates_circuit_share(const halfgates_circuit *circuit, halfgates_circ
  * one another, its AND gates first, each kind in file order. It has the same gates and computes the same. One
  * evaluation of it can take half the time, and one garbling 0.7 to 0.8 of the time; halfgates_garble_many and
  * halfgates_evaluate_many gain nothing. Its digest and the numbers of its AND gates are others, so both parties need
- * it: the evaluator orders too, or reads the text that halfgates_circuit_text writes. Code: HALFGATES_MEMORY.
+ * it: the evaluator orders too, or reads the text that halfgates_circuit_text writes. It has a digest exactly where the
+ * given circuit has. Code: HALFGATES_MEMORY.
  */
 int32_t halfgates_circuit_order(const halfgates_circuit *circuit, halfgates_circuit **ordered);
 
@@ -222,7 +243,10 @@ int32_t halfgates_circuit_numbers(const halfgates_circuit *circuit, halfgates_nu
 int32_t halfgates_circuit_input_widths(const halfgates_circuit *circuit, uint32_t *widths, size_t count);
 int32_t halfgates_circuit_output_widths(const halfgates_circuit *circuit, uint32_t *widths, size_t count);
 
-/* Writes the digest of a circuit, the SHA-256 of its canonical text, 32 bytes. It was taken when the text was read. */
+/*
+ * Writes the digest of a circuit, the SHA-256 of its canonical text, 32 bytes. It was computed when the text was read,
+ * or by halfgates_circuit_take_digest. Code: HALFGATES_NO_DIGEST.
+ */
 int32_t halfgates_circuit_digest(const halfgates_circuit *circuit, uint8_t digest[32]);
 
 /*
@@ -294,6 +318,12 @@ int32_t halfgates_circuit_from_gates(const halfgates_gate *gates, size_t count, 
                                      const uint32_t *output_widths, size_t output_values,
                                      halfgates_circuit **circuit, halfgates_place *place);
 
+/* Makes a circuit as halfgates_circuit_from_gates does, without computing its digest. The codes are the same. */
+int32_t halfgates_circuit_from_gates_without_digest(const halfgates_gate *gates, size_t count, uint32_t wires,
+                                                    const uint32_t *input_widths, size_t input_values,
+                                                    const uint32_t *output_widths, size_t output_values,
+                                                    halfgates_circuit **circuit, halfgates_place *place);
+
 /*
  * Evaluates a circuit in the clear. `bits` are those of all input wires, `size` bytes; `outputs` takes the bits of all
  * output wires. Codes: HALFGATES_SMALL_BUFFER, HALFGATES_WRONG_LENGTH, HALFGATES_BAD_DIGIT, HALFGATES_CIRCUIT_MEMORY.
@@ -314,9 +344,9 @@ int32_t halfgates_garble(const halfgates_circuit *circuit, const uint8_t seed[32
 
 /*
  * Garbles a circuit under `count` seeds, 32 bytes each and one after another, on the calling thread, and writes `count`
- * garblings to `garblings`. Each is the garbling that halfgates_garble makes under its seed. Two at a time are made
- * side by side, which takes less time with AVX2, and up to a fifth more without. The codes are the same. A call that
- * fails makes no garbling.
+ * garblings to `garblings`. Each is the garbling that halfgates_garble makes under its seed. On a processor with
+ * x86-64-v3 two at a time are made side by side, which takes less time. The codes are the same. A call that fails makes
+ * no garbling.
  */
 int32_t halfgates_garble_many(const halfgates_circuit *circuit, const uint8_t *seeds, size_t count,
                               halfgates_garbling **garblings);
@@ -343,9 +373,9 @@ uint64_t halfgates_garbled_size(const halfgates_circuit *circuit, uint32_t versi
 
 /*
  * Writes the garbled file of a garbling in a version, 1 or 2, to `buffer`, and the number of its bytes to `written`.
- * Codes: HALFGATES_BAD_ARGUMENT for another version, or for a garbling whose `first` isn't 0; HALFGATES_SMALL_BUFFER,
- * where `written` is the size that is needed, so that a call with size 0 is a quick way to ask for it;
- * HALFGATES_MEMORY.
+ * Codes: HALFGATES_BAD_ARGUMENT for another version, or for a garbling whose `first` isn't 0; HALFGATES_NO_DIGEST;
+ * HALFGATES_SMALL_BUFFER, where `written` is the size that is needed, so that a call with size 0 is a quick way to ask
+ * for it; HALFGATES_MEMORY.
  */
 int32_t halfgates_garbling_write(const halfgates_garbling *garbling, uint32_t version, uint8_t *buffer, size_t size,
                                  size_t *written);
@@ -355,9 +385,9 @@ int32_t halfgates_garbling_write(const halfgates_garbling *garbling, uint32_t ve
  * list: those that halfgates_garbling_write writes for each, of the sizes that halfgates_garbled_size returns for their
  * circuits. The garblings may be of any circuits. Up to eight files that follow one another are digested side by side,
  * which takes less time. `size` is at least the sum of their sizes. The files are made in memory first. Codes:
- * HALFGATES_BAD_ARGUMENT for another version, or where the `first` of a garbling isn't 0; HALFGATES_SMALL_BUFFER;
- * HALFGATES_MEMORY. Garblings are only read, as in the calls that take a const garbling: the list has no const before
- * them so that a `halfgates_garbling **` is one.
+ * HALFGATES_BAD_ARGUMENT for another version, or where the `first` of a garbling isn't 0; HALFGATES_NO_DIGEST where a
+ * garbling has none; HALFGATES_SMALL_BUFFER; HALFGATES_MEMORY. Garblings are only read, as in the calls that take a
+ * const garbling: the list has no const before them so that a `halfgates_garbling **` is one.
  */
 int32_t halfgates_write_many(halfgates_garbling *const *garblings, size_t count, uint32_t version, uint8_t *files,
                              size_t size);
@@ -462,9 +492,9 @@ typedef struct halfgates_job halfgates_job;
 /*
  * Binds a garbled file, `length` bytes, and label files to a job. `labels` are `count` label files, in any order and
  * one after another, `labels_size` bytes in all, and `lengths` the number of bytes of each. Nothing of the files is
- * trusted. Codes: 30 to 36, the first fault of the garbled file; HALFGATES_WRONG_SIZE where the lengths don't add up
- * to `labels_size`; 30 to 36, the first fault of each label file in turn; 40 to 46, the first fault of the binding;
- * HALFGATES_MEMORY.
+ * trusted. Codes: HALFGATES_NO_DIGEST; 30 to 36, the first fault of the garbled file; HALFGATES_WRONG_SIZE where the
+ * lengths don't add up to `labels_size`; 30 to 36, the first fault of each label file in turn; 40 to 46, the first
+ * fault of the binding; HALFGATES_MEMORY.
  */
 int32_t halfgates_job_bind(const halfgates_circuit *circuit, const uint8_t *garbled, size_t length,
                            const uint8_t *labels, size_t labels_size, const size_t *lengths, size_t count,
@@ -630,10 +660,29 @@ typedef struct halfgates_audit_report {
 
 /*
  * Compares a garbled file, `length` bytes, with a garbling. Codes: HALFGATES_BAD_ARGUMENT for a garbling whose `first`
- * isn't 0; 30 to 36, the first fault of the file. A file that differs is success.
+ * isn't 0; HALFGATES_NO_DIGEST; 30 to 36, the first fault of the file. A file that differs is success.
  */
 int32_t halfgates_audit(const halfgates_garbling *garbling, const uint8_t *garbled, size_t length,
                         halfgates_audit_report *report);
+
+/* What an audit finds in row pairs and decode bits: of each the first difference from the garbling. */
+typedef struct halfgates_rows_report {
+    uint8_t honest;      /* 1 where nothing differs */
+    uint8_t generator;   /* 1 where the generator's row of that pair differs */
+    uint8_t evaluator;   /* 1 where the evaluator's row of that pair differs */
+    uint32_t row;        /* the number, among AND gates, of the first whose row pair differs, or HALFGATES_NONE */
+    uint32_t gate;       /* the number of that gate among all gates, or HALFGATES_NONE */
+    uint32_t wire;       /* the wire that it sets, or HALFGATES_NONE */
+    uint32_t decode_bit; /* the first output whose decode bit differs, or HALFGATES_NONE. Outputs count from 0 */
+} halfgates_rows_report;
+
+/*
+ * Compares row pairs, `rows_size` bytes, 32 for each AND gate, and decode bits, `count` bytes 0 or 1, one for each
+ * output wire, with a garbling of any `first`. Codes: HALFGATES_WRONG_SIZE, HALFGATES_WRONG_LENGTH,
+ * HALFGATES_BAD_DIGIT, HALFGATES_CIRCUIT_MEMORY. Rows or bits that differ are success.
+ */
+int32_t halfgates_audit_rows(const halfgates_garbling *garbling, const uint8_t *rows, size_t rows_size,
+                             const uint8_t *decode_bits, size_t count, halfgates_rows_report *report);
 
 /* What an audit finds of a label file. */
 typedef struct halfgates_labels_report {
@@ -645,11 +694,11 @@ typedef struct halfgates_labels_report {
 } halfgates_labels_report;
 
 /*
- * Compares a label file, `length` bytes, with a garbling, and writes the bits that its labels stand for: they are
- * fewer than `length` / 16. Codes: HALFGATES_BAD_ARGUMENT for a garbling whose `first` isn't 0; 30 to 36, the first
- * fault of the file: HALFGATES_BAD_MAGIC, HALFGATES_FILE_TRUNCATED, HALFGATES_TRAILING, HALFGATES_COUNT_TOO_LARGE or
- * HALFGATES_FILE_MEMORY; HALFGATES_JOB_MEMORY; HALFGATES_SMALL_BUFFER where `size` is less than the number of these
- * bits, which the report then has. A file that differs is success.
+ * Compares a label file, `length` bytes, with a garbling of any `first`, and writes the bits that its labels stand for:
+ * they are fewer than `length` / 16. Codes: 30 to 36, the first fault of the file: HALFGATES_BAD_MAGIC,
+ * HALFGATES_FILE_TRUNCATED, HALFGATES_TRAILING, HALFGATES_COUNT_TOO_LARGE or HALFGATES_FILE_MEMORY;
+ * HALFGATES_JOB_MEMORY; HALFGATES_SMALL_BUFFER where `size` is less than the number of these bits, which the report
+ * then has. A file that differs is success.
  */
 int32_t halfgates_audit_labels(const halfgates_garbling *garbling, const uint8_t *labels, size_t length, uint8_t *bits,
                                size_t size, halfgates_labels_report *report);

@@ -8,8 +8,8 @@
  *
  * Handles are moved and not copied, and are freed when their scope ends. A call that fails throws a `fault`, and where
  * memory for a result runs out std::bad_alloc. Calls on a handle are const, so that threads may use one object at once,
- * but for garbler::rows_into, garbler::next and evaluator::feed, which need theirs alone. The numbers, widths and
- * digest of a circuit are read once.
+ * but for circuit::take_digest, garbler::rows_into, garbler::next and evaluator::feed, which need theirs alone. The
+ * numbers, widths and digest of a circuit are read once.
  *
  * What a call reads is a container of bytes or labels, such as a vector, a string, an array or a span, a `view`, or a
  * list such as {0, 1}. It is read where it is. The text of a circuit can also be a string literal, or another string
@@ -33,6 +33,7 @@
 #include <exception>
 #include <initializer_list>
 #include <memory>
+#include <numeric>
 #include <string>
 #include <system_error>
 #include <type_traits>
@@ -56,6 +57,12 @@ using bytes = std::vector<std::uint8_t>;
 using label = std::array<std::uint8_t, 16>;
 using labels = std::vector<label>;
 
+/* A buffer that a call takes: its name, how many bytes it has, and how many are expected. */
+struct sized {
+    const char *name;
+    std::size_t given, expected;
+};
+
 /* A call failed: the code, and its name as the program prints it. */
 class fault : public std::exception {
 public:
@@ -69,6 +76,18 @@ public:
         std::snprintf(what_, sizeof what_, "fault %d %s: line %llu, column %llu: %s", static_cast<int>(code_),
                       name_.text, static_cast<unsigned long long>(place.line),
                       static_cast<unsigned long long>(place.column), sentence.text);
+    }
+
+    /* One of these buffers has a wrong size or too little room: what() says which, if the code is for that. */
+    fault(std::int32_t code, std::initializer_list<sized> buffers) noexcept : fault(code) {
+        const bool is_read = code == HALFGATES_WRONG_SIZE, is_written = code == HALFGATES_SMALL_BUFFER;
+        for (const sized &it : buffers)
+            if ((is_read && it.given != it.expected) || (is_written && it.given < it.expected)) {
+                std::snprintf(what_, sizeof what_, "fault %d %s: %s has %zu bytes, and %s%zu are expected",
+                              static_cast<int>(code), name_.text, it.name, it.given, is_read ? "" : "at least ",
+                              it.expected);
+                return;
+            }
     }
 
     std::int32_t code() const noexcept { return code_; }
@@ -87,6 +106,11 @@ private:
 inline void check(std::int32_t code) {
     if (code != HALFGATES_OK)
         throw fault(code);
+}
+
+inline void check(std::int32_t code, std::initializer_list<sized> buffers) {
+    if (code != HALFGATES_OK)
+        throw fault(code, buffers);
 }
 
 /* Gates aren't those of a circuit: the fault, and where it is. */
@@ -234,7 +258,8 @@ public:
     /* These bytes. If they aren't 32, it throws HALFGATES_WRONG_SIZE. */
     HALFGATES_NODISCARD static seed from_bytes(const detail::input &given) {
         seed made;
-        check(given.size() == made.bytes_.size() ? HALFGATES_OK : HALFGATES_WRONG_SIZE);
+        check(given.size() == made.bytes_.size() ? HALFGATES_OK : HALFGATES_WRONG_SIZE,
+              {{"given", given.size(), made.bytes_.size()}});
         std::memcpy(made.bytes_.data(), given.data(), given.size());
         return made;
     }
@@ -305,7 +330,8 @@ public:
     /* Writes the garbled file to a buffer with this much room, and returns the number of its bytes. */
     std::size_t write_into(std::uint8_t *buffer, std::size_t size, std::uint32_t version = 2) const {
         std::size_t written = 0;
-        check(halfgates_garbling_write(get(), version, buffer, size, &written));
+        const std::int32_t code = halfgates_garbling_write(get(), version, buffer, size, &written);
+        check(code, {{"buffer", size, written}});
         return written;
     }
 
@@ -336,13 +362,15 @@ public:
 
     /* The row pairs, 32 bytes an AND gate. */
     HALFGATES_NODISCARD bytes rows() const {
-        bytes found(32 * static_cast<std::size_t>(shape_.numbers.and_gates));
+        bytes found(rows_size());
         rows_into(found.data(), found.size());
         return found;
     }
 
     /* Writes the row pairs to a buffer with this much room. */
-    void rows_into(std::uint8_t *buffer, std::size_t size) const { check(halfgates_rows(get(), buffer, size)); }
+    void rows_into(std::uint8_t *buffer, std::size_t size) const {
+        check(halfgates_rows(get(), buffer, size), {{"buffer", size, rows_size()}});
+    }
 
     /* The row pairs of `count` AND gates from AND gate `from` on. */
     HALFGATES_NODISCARD bytes rows_range(std::uint32_t from, std::uint32_t count) const {
@@ -355,14 +383,16 @@ public:
 
     /* Writes them to a buffer with this much room. */
     void rows_range_into(std::uint32_t from, std::uint32_t count, std::uint8_t *buffer, std::size_t size) const {
-        check(halfgates_rows_range(get(), from, count, buffer, size));
+        check(halfgates_rows_range(get(), from, count, buffer, size),
+              {{"buffer", size, 32 * static_cast<std::size_t>(count)}});
     }
 
     /* The bits of labels of an output value that an evaluator returned. A label that is neither of its wire's two
      * throws HALFGATES_WRONG_LABEL. */
     HALFGATES_NODISCARD bytes open(std::uint32_t index, const detail::input &returned) const {
         bytes bits(index < shape_.output_widths.size() ? shape_.output_widths[index] : 0);
-        check(halfgates_open(get(), index, returned.data(), returned.size(), bits.data(), bits.size()));
+        check(halfgates_open(get(), index, returned.data(), returned.size(), bits.data(), bits.size()),
+              {{"returned", returned.size(), 16 * bits.size()}});
         return bits;
     }
 
@@ -405,6 +435,15 @@ public:
         return found;
     }
 
+    /* Compares row pairs and decode bits with the garbling, whatever its first AND number. */
+    HALFGATES_NODISCARD halfgates_rows_report audit_rows(const detail::input &rows,
+                                                         const detail::bits &decode_bits) const {
+        halfgates_rows_report report;
+        check(halfgates_audit_rows(get(), rows.data(), rows.size(), decode_bits.data(), decode_bits.size(), &report),
+              {{"rows", rows.size(), rows_size()}});
+        return report;
+    }
+
     halfgates_garbling *get() const noexcept { return handle_.get(); }
     explicit operator bool() const noexcept { return get() != nullptr; }
 
@@ -413,6 +452,8 @@ private:
     label_pairs pairs(Call call, const std::vector<std::uint32_t> &widths, std::uint32_t index) const {
         return detail::pairs(call, get(), widths, index);
     }
+
+    std::size_t rows_size() const noexcept { return 32 * static_cast<std::size_t>(shape_.numbers.and_gates); }
 
     detail::handle<halfgates_garbling, halfgates_garbling_free> handle_;
     shape shape_;
@@ -444,7 +485,7 @@ public:
      * bytes, or 0 once all are written. */
     std::size_t rows_into(std::uint8_t *buffer, std::size_t size) {
         std::size_t written = 0;
-        check(halfgates_garbler_next(get(), buffer, size, &written));
+        check(halfgates_garbler_next(get(), buffer, size, &written), {{"buffer", size, 32}});
         left_ -= written / 32;
         return written;
     }
@@ -493,7 +534,7 @@ public:
      * the end is left. */
     HALFGATES_NODISCARD std::size_t feed(const detail::input &rows) {
         std::size_t taken = 0;
-        check(halfgates_evaluator_feed(get(), rows.data(), rows.size(), &taken));
+        check(halfgates_evaluator_feed(get(), rows.data(), rows.size(), &taken), {{"rows", rows.size(), 32 * left_}});
         left_ -= taken / 32;
         return taken;
     }
@@ -550,15 +591,20 @@ private:
 
 class circuit {
 public:
-    circuit() noexcept : shape_(), digest_() {}
+    circuit() noexcept : shape_(), digest_(), digest_code_(HALFGATES_OK) {}
 
     explicit circuit(const char *text) : circuit(detail::text_of(text)) {}
 
     /* Where the text is that of no circuit, what() of the fault says the line, the column and the sentence. */
-    explicit circuit(const detail::input &text) {
-        halfgates_circuit *at = nullptr;
-        detail::check_text(halfgates_circuit_read(text.data(), text.size(), &at), text);
-        take(at);
+    explicit circuit(const detail::input &text) : circuit(halfgates_circuit_read, text) {}
+
+    /* The circuit of a text without its digest, which takes longer than reading. Garbled files and jobs need it. */
+    HALFGATES_NODISCARD static circuit read_without_digest(const detail::input &text) {
+        return circuit(halfgates_circuit_read_without_digest, text);
+    }
+
+    HALFGATES_NODISCARD static circuit read_without_digest(const char *text) {
+        return read_without_digest(detail::text_of(text));
     }
 
     /* The circuit of these gates in this order, of this many wires, and of values of these widths. Where they are none,
@@ -566,17 +612,20 @@ public:
     HALFGATES_NODISCARD static circuit from_gates(const std::vector<halfgates_gate> &gates, std::uint32_t wires,
                                                   const std::vector<std::uint32_t> &input_widths,
                                                   const std::vector<std::uint32_t> &output_widths) {
-        halfgates_circuit *at = nullptr;
-        halfgates_place place = halfgates_place();
-        const std::int32_t code = halfgates_circuit_from_gates(
-            gates.data(), gates.size(), wires, input_widths.data(), input_widths.size(), output_widths.data(),
-            output_widths.size(), &at, &place);
-        if (place.fault != HALFGATES_OK && place.fault == code)
-            throw gate_fault(place);
-        check(code);
-        circuit made;
-        made.take(at);
-        return made;
+        return make(halfgates_circuit_from_gates, gates, wires, input_widths, output_widths);
+    }
+
+    HALFGATES_NODISCARD static circuit from_gates_without_digest(const std::vector<halfgates_gate> &gates,
+                                                                 std::uint32_t wires,
+                                                                 const std::vector<std::uint32_t> &input_widths,
+                                                                 const std::vector<std::uint32_t> &output_widths) {
+        return make(halfgates_circuit_from_gates_without_digest, gates, wires, input_widths, output_widths);
+    }
+
+    /* Takes the digest, where the circuit has none. Its other handles and its garblings stay without. */
+    void take_digest() {
+        check(halfgates_circuit_take_digest(get()));
+        read_digest();
     }
 
     /* One more handle of the same circuit, without a copy. */
@@ -611,7 +660,12 @@ public:
     const halfgates_numbers &numbers() const noexcept { return shape_.numbers; }
     const std::vector<std::uint32_t> &input_widths() const noexcept { return shape_.input_widths; }
     const std::vector<std::uint32_t> &output_widths() const noexcept { return shape_.output_widths; }
-    const std::array<std::uint8_t, 32> &digest() const noexcept { return digest_; }
+
+    /* A circuit that has no digest throws HALFGATES_NO_DIGEST. */
+    const std::array<std::uint8_t, 32> &digest() const {
+        check(digest_code_);
+        return digest_;
+    }
 
     HALFGATES_NODISCARD std::uint64_t garbled_size(std::uint32_t version = 2) const {
         const std::uint64_t size = halfgates_garbled_size(get(), version);
@@ -645,7 +699,8 @@ public:
     HALFGATES_NODISCARD halfgates::garbling garble_from(const label &offset, const detail::input &zero_labels,
                                                         std::uint64_t first) const {
         halfgates_garbling *at = nullptr;
-        check(halfgates_garble_from(get(), offset.data(), zero_labels.data(), zero_labels.size(), first, &at));
+        check(halfgates_garble_from(get(), offset.data(), zero_labels.data(), zero_labels.size(), first, &at),
+              {{"zero_labels", zero_labels.size(), inputs_size()}});
         return halfgates::garbling(at, shape_);
     }
 
@@ -661,14 +716,16 @@ public:
     HALFGATES_NODISCARD halfgates::garbler garbler_from(const label &offset, const detail::input &zero_labels,
                                                         std::uint64_t first) const {
         halfgates_garbler *at = nullptr;
-        check(halfgates_garbler_begin_from(get(), offset.data(), zero_labels.data(), zero_labels.size(), first, &at));
+        check(halfgates_garbler_begin_from(get(), offset.data(), zero_labels.data(), zero_labels.size(), first, &at),
+              {{"zero_labels", zero_labels.size(), inputs_size()}});
         return halfgates::garbler(at, shape_);
     }
 
     /* Begins to evaluate in pieces, from the active labels of all input wires. */
     HALFGATES_NODISCARD halfgates::evaluator evaluator(std::uint64_t first, const detail::input &active) const {
         halfgates_evaluator *at = nullptr;
-        check(halfgates_evaluator_begin(get(), first, active.data(), active.size(), &at));
+        check(halfgates_evaluator_begin(get(), first, active.data(), active.size(), &at),
+              {{"active", active.size(), inputs_size()}});
         return halfgates::evaluator(at, shape_);
     }
 
@@ -684,7 +741,9 @@ public:
     HALFGATES_NODISCARD bytes label_file(std::uint32_t index, const detail::input &received) const {
         bytes file(16 + received.size());
         std::size_t written = 0;
-        check(halfgates_label_file(get(), index, received.data(), received.size(), file.data(), file.size(), &written));
+        const std::size_t width = index < input_widths().size() ? input_widths()[index] : 0;
+        check(halfgates_label_file(get(), index, received.data(), received.size(), file.data(), file.size(), &written),
+              {{"received", received.size(), 16 * width}});
         return file;
     }
 
@@ -704,7 +763,8 @@ public:
                                             const std::vector<std::size_t> &sizes) const {
         halfgates_job *at = nullptr;
         check(halfgates_job_bind(get(), garbled.data(), garbled.size(), files.data(), files.size(), sizes.data(),
-                                 sizes.size(), &at));
+                                 sizes.size(), &at),
+              {{"files", files.size(), std::accumulate(sizes.begin(), sizes.end(), std::size_t(0))}});
         return halfgates::job(at, shape_);
     }
 
@@ -713,7 +773,9 @@ public:
                                                std::uint64_t first) const {
         labels outputs(numbers().output_wires);
         check(halfgates_evaluate_labels(get(), rows.data(), rows.size(), first, active.data(), active.size(),
-                                        detail::room(outputs), 16 * outputs.size()));
+                                        detail::room(outputs), 16 * outputs.size()),
+              {{"rows", rows.size(), 32 * static_cast<std::size_t>(numbers().and_gates)},
+               {"active", active.size(), inputs_size()}});
         return outputs;
     }
 
@@ -728,6 +790,37 @@ public:
     explicit operator bool() const noexcept { return get() != nullptr; }
 
 private:
+    template <class Read>
+    circuit(Read read, const detail::input &text) {
+        halfgates_circuit *at = nullptr;
+        detail::check_text(read(text.data(), text.size(), &at), text);
+        take(at);
+    }
+
+    template <class Make>
+    static circuit make(Make call, const std::vector<halfgates_gate> &gates, std::uint32_t wires,
+                        const std::vector<std::uint32_t> &input_widths,
+                        const std::vector<std::uint32_t> &output_widths) {
+        halfgates_circuit *at = nullptr;
+        halfgates_place place = halfgates_place();
+        const std::int32_t code = call(gates.data(), gates.size(), wires, input_widths.data(), input_widths.size(),
+                                       output_widths.data(), output_widths.size(), &at, &place);
+        if (place.fault != HALFGATES_OK && place.fault == code)
+            throw gate_fault(place);
+        check(code);
+        circuit made;
+        made.take(at);
+        return made;
+    }
+
+    /* How many bytes the labels of all input wires have. */
+    std::size_t inputs_size() const noexcept { return 16 * static_cast<std::size_t>(numbers().input_wires); }
+
+    void read_digest() {
+        digest_code_ = halfgates_circuit_digest(get(), digest_.data());
+        check(digest_code_ == HALFGATES_NO_DIGEST ? HALFGATES_OK : digest_code_);
+    }
+
     void take(halfgates_circuit *at) {
         handle_.reset(at);
         halfgates_numbers &it = shape_.numbers;
@@ -736,12 +829,13 @@ private:
         shape_.output_widths.resize(it.output_values);
         check(halfgates_circuit_input_widths(at, shape_.input_widths.data(), it.input_values));
         check(halfgates_circuit_output_widths(at, shape_.output_widths.data(), it.output_values));
-        check(halfgates_circuit_digest(at, digest_.data()));
+        read_digest();
     }
 
     detail::handle<halfgates_circuit, halfgates_circuit_free> handle_;
     shape shape_;
     std::array<std::uint8_t, 32> digest_;
+    std::int32_t digest_code_; /* what reading the digest returned: HALFGATES_OK or HALFGATES_NO_DIGEST */
 };
 
 /* The garbled file of each garbling. Up to eight files in a row are digested side by side. */
@@ -820,7 +914,8 @@ HALFGATES_NODISCARD inline std::vector<outcome> evaluate_each(const std::vector<
 HALFGATES_NODISCARD inline bytes decode(const detail::input &active, const detail::bits &decode_bits) {
     bytes bits(decode_bits.size());
     check(halfgates_decode(active.data(), active.size(), decode_bits.data(), decode_bits.size(), bits.data(),
-                           bits.size()));
+                           bits.size()),
+          {{"active", active.size(), 16 * bits.size()}});
     return bits;
 }
 
