@@ -60,16 +60,16 @@ def main():
     for suffix in ("", "_without_digest"):
         read = getattr(library, f"halfgates_circuit_read{suffix}")
         from_gates = getattr(library, f"halfgates_circuit_from_gates{suffix}")
-        calls[f"reading{suffix}"] = lambda place, call=read: call(text, len(text), place)
-        calls[f"gates{suffix}"] = lambda place, call=from_gates: call(at, *words, place, None)
+        without = " without its digest" if suffix else ""
+        calls[f"a text{without}"] = lambda place, call=read: call(text, len(text), place)
+        calls[f"an array{without}"] = lambda place, call=from_gates: call(at, *words, place, None)
     runs = {name: [] for name in calls}
     for _ in range(TURNS):
         for name, call in calls.items():
             runs[name].append(took(library, call))
-    print(f"{NAME}: {counts[0]:,} gates, ns a gate")
     for name, found in runs.items():
-        limit = f" (at most {MOST})" if name == "gates_without_digest" else ""
-        print(f"{name}: {min(found) / counts[0]:.1f}{limit}")
+        limit = f" (at most {MOST})" if name == "an array without its digest" else ""
+        print(f"{name}: {min(found) / counts[0]:.1f} ns a gate{limit}")
 
 
 main()
