@@ -20,7 +20,6 @@ WHAT = {
     "gc_lanes": "SHA-256 in lanes",
     "gc_tokens": "tokens of texts",
     "gc_circuit": "reading circuits, digests",
-    "gc_hint": "sentences on texts",
     "gc_depth": "order of gates",
     "gc_label": "labels and seeds",
     "gc_half": "half gates, laws",

@@ -6,9 +6,8 @@ ghost use Rattle.gc_explain.specs.Explain.{circuit_of, IsCircuitPlace};
 
 use crate::ended::Ended;
 use crate::sentence::{Explanation, located_place, on_file};
-use gc_circuit::{Circuit, ReadFault};
+use gc_circuit::{Circuit, ReadFault, meaning_of, sentence_of};
 use gc_disk::Reread;
-use gc_hint::{meaning_of, sentence_of};
 use std::alloc::Allocator;
 
 impl<A: Allocator + Copy, F: Reread> Ended<'_, A, F> {

@@ -74,7 +74,7 @@ impl<A: Allocator> ActiveTable<A> {
         ensures waiting { (w : ℕ) → w ≢ gate.set → NoneSets w self.old.waiting
             → NoneSets w self.new.waiting }
     {
-        // Most gates are XOR. In a branch of its own the compiler knows the operation, and tests it once.
+        // Most gates are XOR. They have a branch of their own, where the compiler knows the operation and tests it once.
         if let Operation::Xor(_, _) = gate.operation {
             self.make_read(gate.operation);
             let (a, b) = self.read(gate.operation);
@@ -154,7 +154,7 @@ impl<A: Allocator> ActiveTable<A> {
             self.waiting.push(step, set);
             return;
         };
-        self.waiting = WaitingGates::new();
+        self.waiting.clear();
         let [first, second, third, last] = eval_four_ands_from(
             self.first,
             [a.gate, b.gate, c.gate, step],
@@ -189,7 +189,7 @@ impl<A: Allocator> ActiveTable<A> {
             second,
             third,
         } = self.waiting;
-        self.waiting = WaitingGates::new();
+        self.waiting.clear();
         let Some(a) = first else {
             return;
         };

@@ -41,6 +41,14 @@ impl<T: Copy> WaitingGates<T> {
         }
     }
 
+    /// Has no gate wait.
+    #[inline(always)]
+    pub fn clear(&mut self)
+        ensures { gates_in self.new ≡ [] }
+    {
+        self.first = None;
+    }
+
     /// Whether an operation reads a wire that one of the gates sets.
     #[inline(always)]
     pub fn are_read(&self, operation: Operation) -> bool

@@ -1,14 +1,14 @@
 //! The workers of an evaluation.
 
-/// The workers of an evaluation: how many there are, the memory that they allocate from, and their observer.
+/// The workers of an evaluation: how many there are, their runtime, allocator and observer.
 #[derive(Drop)]
 pub struct Crew<'a, B, H, R> {
-    /// What their threads and their waiting come from.
+    /// The runtime, which starts their threads.
     pub rt: &'a R,
-    /// What they allocate from.
+    /// Their allocator.
     pub alloc: B,
     /// How many there are.
     pub workers: u32,
-    /// What is told of each gate before it is evaluated.
+    /// The observer: each gate is reported to it before it is evaluated.
     pub observer: &'a H,
 }

@@ -1,6 +1,6 @@
-//! What workers that garble or evaluate a circuit together share: how many there may be, the [`Gatehouse`], which
-//! observes them, whether they share a circuit at all, sets of numbers, and, of boards and banks, the states of a gate,
-//! why these can't be opened or closed, and sums over lists.
+//! What workers that garble or evaluate a circuit together share: how many there may be, the [`Crew`] of an evaluation,
+//! the [`Gatehouse`], which observes them, whether they share a circuit at all, sets of numbers, and, of boards and
+//! banks, the states of a gate, why these can't be opened or closed, and sums over lists.
 #![tactic(auto)]
 
 mod crew;

@@ -4,7 +4,7 @@ use Rattle.gc_netlist.specs.Circuit.{Netlist, IsLawful}
 use Rattle.gc_netlist.specs.Spelling.{Spells}
 use Rattle.gc_netlist.specs.Place.{IsLocated}
 use Rattle.gc_circuit.specs.declared.locate.Located.{Located}
-use Rattle.gc_hint.specs.Sentence.{IsSentence}
+use Rattle.gc_circuit.specs.Sentence.{IsSentence}
 
 -- a sentence of up to 255 bytes, with zeros up to 256
 abbrev pub filled : List ℕ → List ℕ

@@ -9,8 +9,7 @@ ghost use Rattle.halfgates_c.specs.Sentences.{filled, IsExplained, Says};
 
 use crate::code::{NULL_POINTER, code_of};
 use crate::null::is_null;
-use gc_circuit::{Circuit, Located, ReadFault};
-use gc_hint::{MAX_SENTENCE, sentence_of};
+use gc_circuit::{Circuit, Located, MAX_SENTENCE, ReadFault, sentence_of};
 use gc_kept::KeptFault;
 use std::alloc::Global;
 

@@ -1,7 +1,7 @@
 //! What faults mean.
 
 ghost use Rattle.std.specs.Prelude.{◌≡◌, ◌≤◌, length};
-ghost use Rattle.gc_hint.specs.Sentence.{meaning};
+ghost use Rattle.gc_circuit.specs.Sentence.{meaning};
 
 use gc_netlist::ReadFault;
 

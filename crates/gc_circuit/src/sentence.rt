@@ -1,12 +1,12 @@
 //! Sentences.
 
 ghost use Rattle.std.specs.Prelude.{◌≡◌, ◌≤◌, ◌++◌, ◌+◌, [], decimal, length};
-ghost use Rattle.gc_hint.specs.Sentence.{subject, IsSentence};
+ghost use Rattle.gc_circuit.specs.Sentence.{subject, IsSentence};
 
 use crate::hint::hint_of;
+use crate::locate::Located;
 use crate::meaning::meaning_of;
 use arrayvec::ArrayString;
-use gc_circuit::Located;
 use itoa::Buffer;
 
 /// The most bytes of a sentence.
