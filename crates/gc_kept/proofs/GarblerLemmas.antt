@@ -1,7 +1,7 @@
 -- The labels that a garbler has on the wires of a value.
 use Rattle.std.proofs.Common.{◌≡◌, ℕ, ◌+◌, ◌-◌, ◌≤◌, List, length, take, drop, refl, sym, ap, ◌∙◌, drop-drop, arith}
 use Rattle.std.specs.List.{slice_index, sum}
-use Rattle.std.proofs.lemmas.List.{drop-take, length-drop, length-take-le, take-take}
+use Rattle.std.proofs.lemmas.List.{drop-take, take-take}
 use Rattle.std.proofs.lemmas.List.FromFn.{take-map-range_with_len, fill_by_all}
 use Rattle.gc_netlist.specs.Circuit.{Netlist, IsLawful, input_wires, output_wires}
 use Rattle.gc_half.specs.declared.garbling.RowPair.{RowPair}
@@ -10,12 +10,6 @@ use Rattle.gc_half.specs.Joined.{output_zero_labels}
 use Rattle.gc_half.specs.Streaming.{StreamingGarblerParts, IsGarbledSoFar}
 use Rattle.gc_half.proofs.PiecesLaw.{input_labels-kept, labels-table}
 use Rattle.gc_kept.specs.Labels.{first_output_of}
-
--- A value has as many labels as wires.
-pub length-value : (labels : List ℕ) (from width : ℕ) → from + width ≤ length labels
-    → length (take width (drop from labels)) ≡ width
-length-value labels from width fits =
-    length-take-le width (drop from labels) (omega (arith, fits, length-drop from labels))
 
 module _ (c : Netlist) (lawful : IsLawful c) (given : List ℕ) (rows : List RowPair)
     (g : StreamingGarblerParts) (is : IsGarbledSoFar c given rows g) where

@@ -1,8 +1,8 @@
 -- Lists of garblings, and their files.
-use Rattle.std.proofs.Common.{◌≡◌, ℕ, ◌+◌, ◌-◌, ◌<◌, ◌≤◌, List, [], ◌∷◌, ◌++◌, length, map, take, drop, get_or, flat_map, refl, sym, ◌∙◌, ap, append-nil, take-add, drop-drop, arith}
+use Rattle.std.proofs.Common.{◌≡◌, ◌↔◌, ℕ, ◌+◌, ◌-◌, ◌<◌, ◌≤◌, List, [], ◌∷◌, ◌++◌, length, map, take, drop, get_or, flat_map, refl, sym, ◌∙◌, ap, append-nil, take-add, drop-drop, arith}
 use Rattle.std.specs.List.{All}
 use Rattle.std.proofs.lemmas.List.{take_more, length-append, length-map, map-append, take-map, get_or-map}
-use Rattle.std.proofs.lemmas.List.Elements.{All-push}
+use Rattle.std.proofs.lemmas.List.Elements.{All-map}
 use Rattle.std.proofs.lemmas.List.Concat.{flat_map-append}
 use Rattle.std.proofs.lemmas.List.Folds.{flat_map-map, length-flat_map-take}
 use Rattle.std.proofs.Math.Seq.{take-append_seam, drop-append-add}
@@ -30,11 +30,7 @@ module _ {X Y : Type 0} (of : X → Y) (xs : List X) (i : ℕ) (d x : X) (within
       ) refl
 
   module _ (P : Y → Type 0) where
-    -- of which something holds as of those before it,
-    pub all_more : All P (take i (map of xs)) → P (of x) → All P (take (i + 1) (map of xs))
-    all_more before holds = rw map_more (All-push P (take i (map of xs)) (of x) before holds)
-
-    -- and which is one of all.
+    -- and is one of all.
     pub one_of : All P (map of xs) → P (of x)
     one_of all = rw (map_at (of x)) at (all i (of x) (omega (arith, within, length-map xs of)))
 
@@ -61,6 +57,14 @@ module _ {X Y : Type 0} (of : X → Y) (xs : List X) (i : ℕ) (d x : X) (within
     count_within =
         rw (take-map of i xs, flat_map-map bytes_in of (take i xs), flat_map-map bytes_in of xs, at)
         (length-flat_map-take (λ y. bytes_in (of y)) xs i d within)
+
+-- What holds of all that things have holds of each thing.
+pub all_of : {X Y : Type 0} (of : X → Y) (xs : List X) (P : Y → Type 0)
+    → All (λ x. P (of x)) xs ↔ All P (map of xs)
+all_of of xs P = (
+  All-map P of xs,
+  λ all i d within. one_of of xs i d (get_or xs i d) within refl P all,
+)
 
 -- The next group of things has its own.
 pub group_more : {X Y : Type 0} (of : X → Y) (xs : List X) (next end : ℕ) → next ≤ end

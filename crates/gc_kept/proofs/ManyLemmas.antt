@@ -1,7 +1,7 @@
 -- Results of a list of things, one for each in order.
-use Rattle.std.proofs.Common.{◌≡◌, ℕ, ◌+◌, ◌*◌, ◌<◌, ◌≤◌, List, [], ◌∷◌, ◌++◌, length, take, get_or, arith}
+use Rattle.std.proofs.Common.{◌≡◌, ℕ, ◌+◌, ◌*◌, ◌<◌, List, [], ◌∷◌, ◌++◌, length, take, get_or, arith}
 use Rattle.std.specs.List.{AllZip}
-use Rattle.std.proofs.lemmas.List.{take_more, take_all}
+use Rattle.std.proofs.lemmas.List.{take_more}
 use Rattle.std.proofs.lemmas.Slice.Zip.{all_zipped_more}
 
 module _ {A B : Type 0} (R : A → B → Type 0) (xs : List A) where
@@ -20,7 +20,3 @@ module _ {A B : Type 0} (R : A → B → Type 0) (xs : List A) where
       let place : 2 * (i + 1) ≡ 2 * i + 1 + 1 = omega arith in
       let one = all_more ys (2 * i) d x y (omega (arith, within)) is before holds in
       rw place (all_more (ys ++ y ∷ []) (2 * i + 1) d x' y' within is' one holds')
-
-  -- There are no more.
-  pub all_ended : (ys : List B) (i : ℕ) → length xs ≤ i → AllZip R (take i xs) ys → AllZip R xs ys
-  all_ended ys i end before = (rw (take_all i xs end) at before)

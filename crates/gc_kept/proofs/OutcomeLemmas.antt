@@ -2,10 +2,6 @@
 use Rattle.std.proofs.Common.{Result, Ok, Err, OnOk, IfErr}
 
 module _ {T E : Type 0} where
-  pub OnOk-both : {A B C : Type 0} (r : Result T E) → (A → B → C) → OnOk r A → OnOk r B → OnOk r C
-  OnOk-both (Ok x) f a b = f a b
-  OnOk-both (Err e) f a b = tt
-
   pub OnOk-map : {A B : Type 0} (r : Result T E) → (A → B) → OnOk r A → OnOk r B
   OnOk-map (Ok x) f a = f a
   OnOk-map (Err e) f a = tt

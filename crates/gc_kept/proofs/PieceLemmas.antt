@@ -73,11 +73,6 @@ pub length-decoded : (bits : List Bool) (labels : List ℕ) → length bits ≡ 
     → length (decode bits labels) ≡ length labels
 length-decoded bits labels same = rw (length-map, length-zip) (omega (arith, same))
 
--- What is at the front of a buffer.
-pub at_front : (file part old : List ℕ) (n : ℕ) → part ≡ file → n ≡ length file
-    → part ++ drop n old ≡ file ++ drop (length file) old
-at_front file part old n is count = rw (is, count) refl
-
 -- The wires of a value are some of all.
 pub value-fits : (widths : List ℕ) (index width : ℕ) → slice_get widths index ≡ Some width
     → sum (take index widths) + width ≤ sum widths

@@ -4,7 +4,7 @@ use Rattle.gc_netlist.specs.Fault as read
 use Rattle.gc_file.specs.Fault as held
 use Rattle.gc_job.specs.Fault.{bind_code_of, eval_code_of}
 use Rattle.gc_kept.specs.declared.fault.KeptFault.{KeptFault}
-use Rattle.gc_kept.specs.declared.fault.KeptFault.TheVariants.{Circuit, BadDigit, WrongLength, Garbling, File, Binding, Evaluation, BadArgument, SmallBuffer, Memory, WrongLabel, WrongSize, Unfinished, NoDigest}
+use Rattle.gc_kept.specs.declared.fault.KeptFault.TheVariants.{Circuit, BadDigit, WrongLength, Garbling, File, Binding, Evaluation, BadArgument, SmallBuffer, NeedsRoom, Memory, WrongLabel, WrongSize, Unfinished, NoDigest}
 
 abbrev pub code_of : KeptFault → ℕ
 code_of (Circuit fault) = read.code_of fault
@@ -16,6 +16,7 @@ code_of (Binding fault) = bind_code_of fault
 code_of (Evaluation fault) = eval_code_of fault
 code_of BadArgument = 60
 code_of SmallBuffer = 61
+code_of (NeedsRoom size) = 61
 code_of Memory = 62
 code_of WrongLabel = 63
 code_of WrongSize = 66

@@ -9,7 +9,7 @@ use Rattle.gc_file.specs.LabelFile.{label_file, label_parts_with}
 use Rattle.gc_file.specs.Honest.{honest_parts_with}
 use Rattle.gc_job.specs.declared.fault.BindFault.TheVariants as bind
 use Rattle.gc_kept.specs.declared.fault.KeptFault.{KeptFault}
-use Rattle.gc_kept.specs.declared.fault.KeptFault.TheVariants.{Binding, SmallBuffer, Memory}
+use Rattle.gc_kept.specs.declared.fault.KeptFault.TheVariants.{Binding, SmallBuffer, NeedsRoom, Memory}
 use Rattle.gc_kept.specs.Bits.{HasBitsFault}
 use Rattle.gc_kept.specs.Garbling.{GarblingWith, HasFiles, HasNoFiles}
 
@@ -25,11 +25,15 @@ IsWholeFileAt file old new written = IsFileAt file old new × (written ≡ lengt
 abbrev pub HasRoomFault : ℕ → ℕ → KeptFault → Type 0
 HasRoomFault length_of room fault = (fault ≡ SmallBuffer) × (room < length_of)
 
--- The fault of writing a file: its length is reported where the room is too little. Memory may be missing instead.
-abbrev pub HasWriteFault : List ℕ → ℕ → ℕ → KeptFault → Type 0
-HasWriteFault file room written SmallBuffer = (room < length file) × (written ≡ length file)
-HasWriteFault file room written Memory = Unit {0}
-HasWriteFault file room written _ = ⊥
+-- The same with the length in the fault.
+abbrev pub LacksRoom : ℕ → ℕ → KeptFault → Type 0
+LacksRoom length_of room fault = (fault ≡ NeedsRoom length_of) × (room < length_of)
+
+-- The fault of writing a file: the room is too little. Memory may be missing instead.
+abbrev pub HasWriteFault : List ℕ → ℕ → KeptFault → Type 0
+HasWriteFault file room (NeedsRoom size) = (room < length file) × (size ≡ length file)
+HasWriteFault file room Memory = Unit {0}
+HasWriteFault file room _ = ⊥
 
 -- The garbled file of a garbling.
 abbrev pub file_of : GarblingWith → Version → List ℕ
@@ -43,9 +47,9 @@ pub record IsGarbledAt (g : GarblingWith) (version : Version) (old new : List �
   pub count : written ≡ length (file_of g version)
 
 -- The fault of writing it: that of a garbling without files, else that of writing a file.
-abbrev pub HasFileFault : GarblingWith → Version → ℕ → ℕ → KeptFault → Type 0
-HasFileFault g version room written fault = HasNoFiles g fault
-    ⊎ (HasFiles g × HasWriteFault (file_of g version) room written fault)
+abbrev pub HasFileFault : GarblingWith → Version → ℕ → KeptFault → Type 0
+HasFileFault g version room fault =
+    HasNoFiles g fault ⊎ (HasFiles g × HasWriteFault (file_of g version) room fault)
 
 -- The buffer begins with the label file of the bits that these bytes are, with an offset and zero labels of the input
 -- wires, and this is its length.
@@ -59,34 +63,31 @@ pub record IsDealtWith (c : Netlist) (offset : ℕ) (zero_label : ℕ → ℕ) (
 
 -- The fault of dealing: no such value, then that of the bits, then that of writing the file.
 pub data HasDealtFaultWith (c : Netlist) (offset : ℕ) (zero_label : ℕ → ℕ) (index : ℕ)
-    (bytes : List ℕ) (room written : ℕ) : KeptFault → Type 0 where
+    (bytes : List ℕ) (room : ℕ) : KeptFault → Type 0 where
   no_value : length c.input_widths ≤ index
-      → HasDealtFaultWith c offset zero_label index bytes room written (Binding bind.NoSuchValue)
+      → HasDealtFaultWith c offset zero_label index bytes room (Binding bind.NoSuchValue)
   of_bits : (width : ℕ) (fault : KeptFault) → slice_get c.input_widths index ≡ Some width
       → HasBitsFault bytes width fault
-      → HasDealtFaultWith c offset zero_label index bytes room written fault
+      → HasDealtFaultWith c offset zero_label index bytes room fault
   of_file : (bits : List Bool) (fault : KeptFault) → bytes ≡ map bit_number bits
       → slice_get c.input_widths index ≡ Some (length bits)
-      → HasWriteFault (label_file (label_parts_with c offset zero_label index bits)) room written
-      fault
-      → HasDealtFaultWith c offset zero_label index bytes room written fault
+      → HasWriteFault (label_file (label_parts_with c offset zero_label index bits)) room fault
+      → HasDealtFaultWith c offset zero_label index bytes room fault
 
 -- The same under a seed,
 abbrev pub IsDealtAt : Netlist → List ℕ → ℕ → List ℕ → List ℕ → List ℕ → ℕ → Type 0
 IsDealtAt c seed index bytes old new written =
     IsDealtWith c (offset_of seed) (input_label_of seed) index bytes old new written
 
-abbrev pub HasDealtFault : Netlist → List ℕ → ℕ → List ℕ → ℕ → ℕ → KeptFault → Type 0
-HasDealtFault c seed index bytes room written fault =
-    HasDealtFaultWith c (offset_of seed) (input_label_of seed) index bytes room written fault
+abbrev pub HasDealtFault : Netlist → List ℕ → ℕ → List ℕ → ℕ → KeptFault → Type 0
+HasDealtFault c seed index bytes room fault =
+    HasDealtFaultWith c (offset_of seed) (input_label_of seed) index bytes room fault
 
 -- and of a garbling.
 abbrev pub IsDealtFrom : GarblingWith → ℕ → List ℕ → List ℕ → List ℕ → ℕ → Type 0
 IsDealtFrom g index bytes old new written =
     IsDealtWith g.circuit g.offset (slice_index g.garbling.zero_labels) index bytes old new written
 
-abbrev pub HasDealtFaultFrom : GarblingWith → ℕ → List ℕ → ℕ → ℕ → KeptFault → Type 0
-HasDealtFaultFrom g index bytes room written fault =
-    HasDealtFaultWith g.circuit g.offset (slice_index g.garbling.zero_labels) index bytes room
-    written
-    fault
+abbrev pub HasDealtFaultFrom : GarblingWith → ℕ → List ℕ → ℕ → KeptFault → Type 0
+HasDealtFaultFrom g index bytes room fault =
+    HasDealtFaultWith g.circuit g.offset (slice_index g.garbling.zero_labels) index bytes room fault

@@ -2,7 +2,7 @@
 use Rattle.std.specs.Prelude.{◌≡◌, ℕ, ◌-◌, ◌+◌, ◌*◌, ◌/◌, ◌<◌, Bool, IsTrue, List, [], length, map, flat_map, take, drop, min, slice_get, slice_index, Some}
 use Rattle.gc_netlist.specs.Circuit.{Netlist, and_count, output_wires}
 use Rattle.gc_netlist.specs.Spelling.{bit_number}
-use Rattle.gc_label.specs.Label.{◌⊕◌, colour, bytes_of_label, label_of_bytes}
+use Rattle.gc_label.specs.Label.{colour, label_of_bytes}
 use Rattle.gc_label.specs.Seed.{offset_of}
 use Rattle.gc_half.specs.declared.garbling.RowPair.{RowPair}
 use Rattle.gc_half.specs.Garbling.{GarblingParts, IsGarbledFrom, decode_bits_of}
@@ -12,7 +12,7 @@ use Rattle.gc_audit.specs.Labels.{first_wire_of}
 use Rattle.gc_kept.specs.declared.fault.KeptFault.{KeptFault}
 use Rattle.gc_kept.specs.declared.fault.KeptFault.TheVariants.{SmallBuffer, Unfinished}
 use Rattle.gc_kept.specs.Files.{HasRoomFault, IsFileAt}
-use Rattle.gc_kept.specs.Labels.{AreLabels, HasValueLabelsFault, first_output_of}
+use Rattle.gc_kept.specs.Labels.{AreBoth, AreLabels, HasValueLabelsFault, first_output_of}
 
 -- A garbling in progress, with its circuit.
 pub record GarblerWith : Type 0 where
@@ -71,14 +71,7 @@ pub record Makes (g : GarblerWith) (all : GarblingParts) : Type 0 where
   pub so_far : IsGarbledSoFar g.circuit given rows g.garbler
   pub garbled : IsGarbledFrom g.garbler.offset (slice_index given) g.garbler.first g.circuit all
 
--- Two buffers begin with both labels of wires with these zero labels: the one with the zero labels, and the other with
--- their sums with the offset.
-pub record AreBoth (offset : ℕ) (labels zero_old zero_new one_old one_new : List ℕ) : Type 0 where
-  pub zero : IsFileAt (flat_map bytes_of_label labels) zero_old zero_new
-  pub one : IsFileAt (flat_map bytes_of_label (map (λ label. label ⊕ offset) labels))
-      one_old one_new
-
--- They begin with both labels of each wire of an input value: those with which the garbler was begun.
+-- Two buffers begin with both labels of each wire of an input value: those with which the garbler was begun.
 pub record AreGivenLabels (g : GarblerWith) (index : ℕ) (zero_old zero_new one_old one_new : List ℕ)
     : Type 0 where
   pub width : ℕ

@@ -13,7 +13,7 @@ use Rattle.gc_job.specs.Job.{JobParts}
 use Rattle.gc_job.specs.declared.fault.BindFault.TheVariants as bind
 use Rattle.gc_job.specs.declared.fault.EvalFault.TheVariants as eval
 use Rattle.gc_kept.specs.declared.fault.KeptFault.{KeptFault}
-use Rattle.gc_kept.specs.declared.fault.KeptFault.TheVariants.{BadDigit, Binding, Circuit, Evaluation, BadArgument, SmallBuffer, Garbling, Memory, WrongSize}
+use Rattle.gc_kept.specs.declared.fault.KeptFault.TheVariants.{BadDigit, Binding, Circuit, Evaluation, BadArgument, SmallBuffer, NeedsRoom, Garbling, Memory, WrongSize}
 use Rattle.gc_netlist.specs.declared.fault.ReadFault.TheVariants as read
 use Rattle.gc_kept.specs.Bits.{HasBadDigit}
 use Rattle.gc_kept.specs.Circuit.{CircuitWith}
@@ -64,16 +64,19 @@ first_output_of c index = c.wires - output_wires c + sum (take index c.output_wi
 abbrev pub zero_labels_from : GarblingWith → ℕ → ℕ → List ℕ
 zero_labels_from g from count = take count (drop from g.garbling.zero_labels)
 
--- Two buffers begin with both labels of each wire of a value, which has one of these widths and begins at this wire:
--- the one with the zero labels, and the other with their sums with the offset.
+-- Two buffers begin with both labels of wires with these zero labels: the one with the zero labels, and the other with
+-- their sums with the offset.
+pub record AreBoth (offset : ℕ) (labels zero_old zero_new one_old one_new : List ℕ) : Type 0 where
+  pub zero : IsFileAt (flat_map bytes_of_label labels) zero_old zero_new
+  pub one : IsFileAt (flat_map bytes_of_label (map (λ label. label ⊕ offset) labels))
+      one_old one_new
+
+-- They begin with both labels of each wire of a value, which has one of these widths and begins at this wire.
 pub record AreValueLabels (g : GarblingWith) (widths : List ℕ) (index from : ℕ)
     (zero_old zero_new one_old one_new : List ℕ) : Type 0 where
   pub width : ℕ
   pub at : slice_get widths index ≡ Some width
-  pub zero : IsFileAt (flat_map bytes_of_label (zero_labels_from g from width)) zero_old zero_new
-  pub one : IsFileAt
-      (flat_map bytes_of_label (map (λ label. label ⊕ g.offset) (zero_labels_from g from width)))
-      one_old one_new
+  pub both : AreBoth g.offset (zero_labels_from g from width) zero_old zero_new one_old one_new
 
 -- The fault of such labels: there is no such value, or a buffer has too little room.
 abbrev pub HasValueLabelsFault : List ℕ → ℕ → ℕ → ℕ → KeptFault → Type 0
@@ -158,14 +161,14 @@ pub record IsReceivedAt (c : Netlist) (index : ℕ) (bytes old new : List ℕ) (
   pub count : written ≡ 16 + 16 * length labels
 
 -- The fault of such a file: no such value, then other labels than one for each of its wires, then a buffer with too
--- little room, whose size is reported. Memory may be missing instead.
-abbrev pub HasReceivedFault : Netlist → ℕ → List ℕ → ℕ → ℕ → KeptFault → Type 0
-HasReceivedFault c index bytes room written (Binding fault) =
+-- little room. Memory may be missing instead.
+abbrev pub HasReceivedFault : Netlist → ℕ → List ℕ → ℕ → KeptFault → Type 0
+HasReceivedFault c index bytes room (Binding fault) =
     (fault ≡ bind.NoSuchValue) × (length c.input_widths ≤ index)
-HasReceivedFault c index bytes room written WrongSize =
+HasReceivedFault c index bytes room WrongSize =
     (width : ℕ) × (slice_get c.input_widths index ≡ Some width) × (length bytes ≢ 16 * width)
-HasReceivedFault c index bytes room written SmallBuffer =
+HasReceivedFault c index bytes room (NeedsRoom size) =
     (width : ℕ) × (slice_get c.input_widths index ≡ Some width) × (length bytes ≡ 16 * width)
-    × (room < 16 + 16 * width) × (written ≡ 16 + 16 * width)
-HasReceivedFault c index bytes room written Memory = Unit {0}
-HasReceivedFault c index bytes room written _ = ⊥
+    × (room < 16 + 16 * width) × (size ≡ 16 + 16 * width)
+HasReceivedFault c index bytes room Memory = Unit {0}
+HasReceivedFault c index bytes room _ = ⊥

@@ -1,8 +1,9 @@
 //! Bits as bytes.
 
-ghost use Rattle.std.specs.Prelude.{◌≡◌, length, map, IfOk, IfErr};
+ghost use Rattle.std.specs.Prelude.{◌≡◌, ◌≤◌, length, map, IfOk, IfErr};
 ghost use Rattle.gc_netlist.specs.Spelling.{bit_number};
 ghost use Rattle.gc_kept.specs.Bits.{HasBitsFault};
+ghost use Rattle.gc_kept.specs.Files.{IsFileAt};
 
 use crate::fault::KeptFault;
 use gc_circuit::ReadFault;
@@ -16,13 +17,22 @@ pub(crate) fn bit_byte(bit: bool) -> u8
 }
 
 /// Writes the byte of each bit. The caller ensures that there is one for each.
-pub fn write_bits(bits: &[bool], bytes: &mut [u8])
+fn put_bits(bits: &[bool], bytes: &mut [u8])
     requires { length bytes.old ≡ length bits.now }
     ensures { bytes.new ≡ map bit_number bits.now }
 {
     for (i, byte) in bytes.iter_mut().enumerate() {
         *byte = bit_byte(bits[i]);
     }
+}
+
+/// Writes the byte of each bit to the front of a buffer, whose end stays as it is. The caller ensures that there is
+/// room.
+pub fn write_bits(bits: &[bool], buffer: &mut [u8])
+    requires { length bits.now ≤ length buffer.old }
+    ensures { IsFileAt (map bit_number bits.now) buffer.old buffer.new }
+{
+    put_bits(bits, &mut buffer[..bits.len()]);
 }
 
 /// The bits of these bytes, where there are `count` of them and each is 0 or 1. All of them are read before that is

@@ -3,7 +3,7 @@
 ghost use Rattle.std.specs.Prelude.{◌≡◌, ◌+◌, ◌*◌, ◌<◌, ◌≤◌, ◌⊎◌, length, map, take, drop, OnOk, OnErr, IfErr};
 ghost use Rattle.gc_netlist.specs.Spelling.{bit_number};
 ghost use Rattle.gc_label.specs.Label.{colour};
-ghost use Rattle.gc_kept.specs.Garbler.{AreBoth};
+ghost use Rattle.gc_kept.specs.Labels.{AreBoth};
 
 use crate::bits::bit_byte;
 use crate::fault::KeptFault;
@@ -15,7 +15,8 @@ use gc_label::{Label, Offset};
 /// The labels of `count` wires from wire `from` on. The caller ensures that there are such wires.
 pub(crate) fn labels_of(labels: &[Label], from: usize, count: usize) -> &[Label]
     requires { from + count ≤ length labels.now }
-    ensures { result.now ≡ take count (drop from labels.now) }
+    ensures labels { result.now ≡ take count (drop from labels.now) }
+    ensures count { length result.now ≡ count }
 {
     &labels[from..from + count]
 }

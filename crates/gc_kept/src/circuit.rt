@@ -12,7 +12,7 @@ use crate::fault::KeptFault;
 use gc_circuit::{Arrays, ArraysFault, Circuit, ReadFault};
 use gc_depth::order_by_depth;
 use gc_job::BindFault;
-use std::alloc::{AllocError, Global};
+use std::alloc::Global;
 use std::marker::Model;
 use std::sync::Arc;
 
@@ -154,8 +154,9 @@ impl KeptCircuit {
     }
 
     /// The circuit once more, for another to hold, with its digest where it has one. The circuit isn't copied.
-    pub fn again(&self) -> Result<KeptCircuit, AllocError>
-        ensures { IfOk result (λ c. c ≡ self.now) }
+    pub fn again(&self) -> Result<KeptCircuit, KeptFault>
+        ensures ok { IfOk result (λ c. c ≡ self.now) }
+        ensures fault { IfErr result (λ fault. fault ≡ KeptFault.Memory) }
     {
         Ok(KeptCircuit {
             shared: Arc::try_clone(&self.shared)?,

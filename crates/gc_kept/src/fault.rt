@@ -30,6 +30,8 @@ pub enum KeptFault {
     BadArgument,
     /// A buffer has too little room.
     SmallBuffer,
+    /// A buffer has too little room for a file, which has so many bytes.
+    NeedsRoom(usize),
     /// There is no memory for what is kept.
     Memory,
     /// A label is neither of the two of its wire.
@@ -59,7 +61,7 @@ impl KeptFault {
             KeptFault::Binding(fault) => fault.code(),
             KeptFault::Evaluation(fault) => fault.code(),
             KeptFault::BadArgument => 60,
-            KeptFault::SmallBuffer => 61,
+            KeptFault::SmallBuffer | KeptFault::NeedsRoom(_) => 61,
             KeptFault::Memory => 62,
             KeptFault::WrongLabel => 63,
             KeptFault::WrongSize => 66,

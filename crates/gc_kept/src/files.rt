@@ -1,10 +1,9 @@
 //! Writing files to the buffers of callers.
 
-ghost use Rattle.std.specs.Prelude.{◌≡◌, ◌≢◌, length, IfErr, OnOk, OnErr};
+ghost use Rattle.std.specs.Prelude.{◌≡◌, length, IfOk, IfErr, OnErr};
 ghost use Rattle.gc_netlist.specs.Canon.{canonical_text};
 ghost use Rattle.gc_file.specs.Honest.{IsFileSize};
-ghost use Rattle.gc_kept.specs.Files.{IsFileAt, IsWholeFileAt, HasRoomFault, HasWriteFault};
-ghost use Rattle.gc_kept.specs.Files.{IsGarbledAt, HasFileFault, file_of};
+ghost use Rattle.gc_kept.specs.Files.{IsWholeFileAt, LacksRoom, HasWriteFault, IsGarbledAt, HasFileFault, file_of};
 
 use crate::circuit::KeptCircuit;
 use crate::fault::KeptFault;
@@ -14,39 +13,30 @@ use gc_file::sizes::garbled_size;
 use gc_file::{GarbledSource, MemSink, Trailer, Version, write_garbled_file};
 use std::alloc::Global;
 
-/// Copies a file to a buffer, whose end stays as it is, and reports the number of its bytes. Where the buffer is too
+/// Copies a file to a buffer, whose end stays as it is, and returns the number of its bytes. Where the buffer is too
 /// small it stays as it is.
-fn copy_file(file: &[u8], buffer: &mut [u8], written: &mut usize) -> Result<(), KeptFault>
-    ensures ok { OnOk result (IsFileAt file.now buffer.old buffer.new) }
-    ensures fault { IfErr result (HasRoomFault (length file.now) (length buffer.old)) }
+fn copy_file(file: &[u8], buffer: &mut [u8]) -> Result<usize, KeptFault>
+    ensures ok { IfOk result (IsWholeFileAt file.now buffer.old buffer.new) }
+    ensures fault { IfErr result (LacksRoom (length file.now) (length buffer.old)) }
     ensures unwritten { OnErr result (buffer.new ≡ buffer.old) }
-    ensures written { written.new ≡ length file.now }
 {
-    look_for_room(file.len(), buffer, written)?;
+    look_for_room(file.len(), buffer)?;
     buffer[..file.len()].copy_from_slice(file);
-    *written = file.len();
-    Ok(())
+    Ok(file.len())
 }
 
 impl KeptCircuit {
-    /// Writes the canonical text of the circuit, and reports the number of its bytes. It refuses a buffer that is too
-    /// small (61): then `written` is the size that is needed. After another fault it is as it was.
-    pub fn write_text(
-        &self,
-        alloc: Global,
-        buffer: &mut [u8],
-        written: &mut usize,
-    ) -> Result<(), KeptFault>
-        ensures ok { OnOk result
-            (IsWholeFileAt (canonical_text self.now.netlist) buffer.old buffer.new written.new) }
+    /// Writes the canonical text of the circuit, and returns the number of its bytes. It refuses a buffer that is too
+    /// small (61).
+    pub fn write_text(&self, alloc: Global, buffer: &mut [u8]) -> Result<usize, KeptFault>
+        ensures ok { IfOk result
+            (IsWholeFileAt (canonical_text self.now.netlist) buffer.old buffer.new) }
         ensures fault { IfErr result
-            (HasWriteFault (canonical_text self.now.netlist) (length buffer.old) written.new) }
+            (HasWriteFault (canonical_text self.now.netlist) (length buffer.old)) }
         ensures unwritten { OnErr result (buffer.new ≡ buffer.old) }
-        ensures unreported { IfErr result (λ fault.
-            fault ≢ KeptFault.SmallBuffer → written.new ≡ written.old) }
     {
         match self.circuit().canon(alloc) {
-            Ok(text) => copy_file(&text, buffer, written),
+            Ok(text) => copy_file(&text, buffer),
             Err(_) => Err(KeptFault::Memory),
         }
     }
@@ -60,31 +50,26 @@ impl KeptCircuit {
 }
 
 impl KeptGarbling {
-    /// Writes the garbled file of a version, and reports the number of its bytes. It refuses a garbling whose AND gates
+    /// Writes the garbled file of a version, and returns the number of its bytes. It refuses a garbling whose AND gates
     /// aren't numbered from 0 on (60), one of a circuit that had no digest (68), and a buffer that is too small (61):
-    /// then no file is made, and `written` is the size that is needed. After another fault it is as it was.
+    /// then no file is made.
     pub fn write(
         &self,
         alloc: Global,
         version: Version,
         buffer: &mut [u8],
-        written: &mut usize,
-    ) -> Result<(), KeptFault>
-        ensures ok { OnOk result
-            (IsGarbledAt self.now version buffer.old buffer.new written.new) }
-        ensures fault { IfErr result
-            (HasFileFault self.now version (length buffer.old) written.new) }
+    ) -> Result<usize, KeptFault>
+        ensures ok { IfOk result (IsGarbledAt self.now version buffer.old buffer.new) }
+        ensures fault { IfErr result (HasFileFault self.now version (length buffer.old)) }
         ensures unwritten { OnErr result (buffer.new ≡ buffer.old) }
-        ensures unreported { IfErr result (λ fault.
-            fault ≢ KeptFault.SmallBuffer → written.new ≡ written.old) }
     {
         self.law_garbled();
         let digest = self.file_digest()?;
         let source = self.source(digest, version);
-        look_for_room(self.file_size(version), buffer, written)?;
+        look_for_room(self.file_size(version), buffer)?;
         let mut sink = MemSink::new(alloc, None);
         match write_garbled_file(&mut sink, &source, Trailer::Written) {
-            Ok(_) => copy_file(sink.bytes(), buffer, written),
+            Ok(_) => copy_file(sink.bytes(), buffer),
             Err(_) => Err(KeptFault::Memory),
         }
     }

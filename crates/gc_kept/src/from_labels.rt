@@ -89,6 +89,6 @@ pub fn decode(
     let Ok(found) = decoded(alloc, &decode_bits, &labels) else {
         return Err(NO_MEMORY);
     };
-    write_bits(&found, &mut bits[..count]);
+    write_bits(&found, bits);
     Ok(())
 }

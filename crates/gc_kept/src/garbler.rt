@@ -19,7 +19,6 @@ use crate::values::sum_of;
 use gc_file::first_wire;
 use gc_file::sizes::PAIR;
 use gc_half::{NO_ROWS, RowPair, Start, StreamingGarbler};
-use gc_job::BindFault;
 use gc_label::Seed;
 use std::alloc::Global;
 use std::marker::Model;
@@ -150,12 +149,9 @@ impl KeptGarbler {
         ensures zero_unwritten { OnErr result (zero.new ≡ zero.old) }
         ensures one_unwritten { OnErr result (one.new ≡ one.old) }
     {
-        let circuit = self.circuit.circuit();
-        let Some(width) = circuit.input_widths().get(index as usize) else {
-            return Err(KeptFault::Binding(BindFault::NoSuchValue));
-        };
-        let from = first_wire(circuit, index as usize) as usize;
-        let labels = labels_of(self.garbler.zero_labels(), from, *width as usize);
+        let width = self.circuit.input_width(index)?;
+        let from = first_wire(self.circuit.circuit(), index as usize) as usize;
+        let labels = labels_of(self.garbler.zero_labels(), from, width);
         write_both(labels, self.garbler.offset(), zero, one)
     }
 
@@ -179,14 +175,9 @@ impl KeptGarbler {
         if !self.garbler.is_whole(circuit) {
             return Err(KeptFault::Unfinished);
         }
-        let widths = circuit.output_widths();
-        let Some(width) = widths.get(index as usize) else {
-            return Err(KeptFault::Binding(BindFault::NoSuchValue));
-        };
-        circuit.law_lawful();
-        let from = sum_of(&widths[..index as usize]) as usize;
-        let outputs = self.garbler.output_zero_labels(circuit);
-        let labels = labels_of(outputs, from, *width as usize);
+        let width = self.circuit.output_width(index)?;
+        let from = sum_of(&circuit.output_widths()[..index as usize]) as usize;
+        let labels = labels_of(self.garbler.output_zero_labels(circuit), from, width);
         write_both(labels, self.garbler.offset(), zero, one)
     }
 

@@ -44,10 +44,8 @@ fn look_at_numbers(garblings: &[&KeptGarbling]) -> Result<(), KeptFault>
     ensures fault { IfErr result (λ fault. fault ≡ KeptFault.BadArgument) }
     ensures one { OnErr result (¬ AreFromZero (map (λ g. g.now) garblings.now)) }
 {
-    for garbling in garblings {
-        if !garbling.is_from_zero() {
-            return Err(KeptFault::BadArgument);
-        }
+    if !garblings.iter().all(|garbling| garbling.is_from_zero()) {
+        return Err(KeptFault::BadArgument);
     }
     Ok(())
 }
@@ -58,10 +56,8 @@ fn look_at_digests(garblings: &[&KeptGarbling]) -> Result<(), KeptFault>
     ensures fault { IfErr result (λ fault. fault ≡ KeptFault.NoDigest) }
     ensures one { OnErr result (¬ HaveDigests (map (λ g. g.now) garblings.now)) }
 {
-    for garbling in garblings {
-        if !garbling.has_digest() {
-            return Err(KeptFault::NoDigest);
-        }
+    if !garblings.iter().all(|garbling| garbling.has_digest()) {
+        return Err(KeptFault::NoDigest);
     }
     Ok(())
 }

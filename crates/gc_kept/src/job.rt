@@ -101,10 +101,9 @@ impl KeptJob {
         ensures fault { IfErr result (HasEvaluationFault self.now (length bits.old)) }
         ensures unwritten { OnErr result (bits.new ≡ bits.old) }
     {
-        let outputs = self.outputs();
-        has_room(outputs, bits)?;
+        has_room(self.outputs(), bits)?;
         let found = self.borrowed().evaluate(alloc)?;
-        write_bits(&found, &mut bits[..outputs]);
+        write_bits(&found, bits);
         Ok(())
     }
 

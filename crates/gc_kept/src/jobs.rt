@@ -28,7 +28,7 @@ pub fn evaluate_list(alloc: Global, jobs: &[&KeptJob], bits: &mut [u8]) -> Resul
     let known = known_of(alloc, jobs)?;
     let found = evaluate_rest(alloc, jobs, known)?;
     let all = joined(alloc, &found)?;
-    write_bits(&all, &mut bits[..all.len()]);
+    write_bits(&all, bits);
     Ok(())
 }
 

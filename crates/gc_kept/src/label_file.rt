@@ -1,6 +1,6 @@
 //! Label files, dealt under a seed or from a garbling, and of labels that were received.
 
-ghost use Rattle.std.specs.Prelude.{◌≡◌, ◌≢◌, ℕ, ◌+◌, ◌*◌, ◌^◌, ◌<◌, ◌≤◌, ◌++◌, take, length, map, slice_get, slice_index, Some, IfOk, IfErr, OnOk, OnErr};
+ghost use Rattle.std.specs.Prelude.{◌≡◌, ℕ, ◌+◌, ◌*◌, ◌^◌, ◌<◌, ◌≤◌, ◌++◌, take, length, map, slice_get, slice_index, Some, IfOk, IfErr, OnErr};
 ghost use Rattle.std.specs.List.{range_with_len};
 ghost use Rattle.gc_netlist.specs.Spelling.{bit_number};
 ghost use Rattle.gc_label.specs.Seed.{input_label_of};
@@ -62,8 +62,9 @@ fn zero_labels(
     count: usize,
 ) -> Result<Vec<Label, Global>, AllocError>
     requires { first + count ≤ 2 ^ 32 }
-    ensures { IfOk result (λ v.
+    ensures labels { IfOk result (λ v.
         v.items ≡ map (input_label_of seed.now) (range_with_len first count)) }
+    ensures count { IfOk result (λ v. length v.items ≡ count) }
 {
     let mut labels = Vec::with_capacity(alloc, count)?;
     labels.resize(count, Label::ZERO)?;
@@ -79,8 +80,9 @@ fn encoded(
     bits: &[bool],
 ) -> Result<Vec<Label, Global>, AllocError>
     requires { length zero_labels.now ≡ length bits.now }
-    ensures { IfOk result (λ v.
+    ensures labels { IfOk result (λ v.
         v.items ≡ encoded_with offset (slice_index zero_labels.now) 0 bits.now) }
+    ensures count { IfOk result (λ v. length v.items ≡ length bits.now) }
 {
     let mut labels = Vec::with_capacity(alloc, bits.len())?;
     for i in 0..bits.len() {
@@ -89,122 +91,117 @@ fn encoded(
     Ok(labels)
 }
 
+/// What an input value is given, as bytes.
+#[derive(Clone, Copy)]
+pub struct InputBytes<'a> {
+    /// The value's index.
+    pub index: u32,
+    /// For each wire of the value a bit, which is a byte 0 or 1, or a label of 16 bytes.
+    pub bytes: &'a [u8],
+}
+
+/// What an input value is given under a seed, as bytes.
+#[derive(Clone, Copy)]
+pub struct SeededBytes<'a> {
+    /// The seed.
+    pub seed: &'a [u8; 32],
+    /// The value, and its bits.
+    pub input: InputBytes<'a>,
+}
+
 impl KeptCircuit {
-    /// The bits that these bytes are, for the input value with this index, where a buffer has room for a label file of
-    /// them. It refuses what [`KeptCircuit::deal`] refuses.
+    /// The bits that an input value is given, where a buffer has room for a label file of them. It refuses what
+    /// [`KeptCircuit::deal`] refuses.
     fn dealt_bits(
         &self,
         alloc: Global,
-        index: u32,
-        bits: &[u8],
+        input: InputBytes<'_>,
         buffer: &[u8],
-        written: &mut usize,
     ) -> Result<Vec<bool, Global>, KeptFault>
-        ensures bytes { IfOk result (λ v. bits.now ≡ map bit_number v.items) }
+        ensures bytes { IfOk result (λ v. input.entry.bytes.now ≡ map bit_number v.items) }
         ensures width { IfOk result (λ v.
-            slice_get self.now.netlist.input_widths index ≡ Some (length v.items)) }
+            slice_get self.now.netlist.input_widths input.entry.index ≡ Some (length v.items)) }
         ensures few { IfOk result (λ v. length v.items < 2 ^ 32) }
         ensures room { IfOk result (λ v. 16 + 16 * length v.items ≤ length buffer.now) }
         ensures fault { (offset : ℕ) (zero_label : ℕ → ℕ) → IfErr result
-            (HasDealtFaultWith self.now.netlist offset zero_label index bits.now
-            (length buffer.now) written.new) }
-        ensures unreported { IfErr result (λ fault.
-            fault ≢ KeptFault.SmallBuffer → written.new ≡ written.old) }
-        ensures unwritten { IfOk result (λ _. written.new ≡ written.old) }
+            (HasDealtFaultWith self.now.netlist offset zero_label input.entry.index
+            input.entry.bytes.now (length buffer.now)) }
     {
-        let width = self.input_width(index)?;
-        let bits = read_bits(alloc, bits, width)?;
-        look_for_room(LABEL_HEADER + LABEL * width, buffer, written)?;
+        let width = self.input_width(input.index)?;
+        let bits = read_bits(alloc, input.bytes, width)?;
+        look_for_room(LABEL_HEADER + LABEL * width, buffer)?;
         Ok(bits)
     }
 
-    /// Writes the label file of the input value with this index, for these bits under a seed, and reports the number of
-    /// its bytes. It refuses an index without a value (42), a wrong number of bits (16), a byte other than 0 and 1
-    /// (15), and a buffer that is too small (61): then no file is made, and `written` is the size that is needed. After
-    /// another fault it is as it was.
+    /// Writes the label file of an input value, for its bits under a seed, and returns the number of its bytes. It
+    /// refuses an index without a value (42), a wrong number of bits (16), a byte other than 0 and 1 (15), and a buffer
+    /// that is too small (61): then no file is made.
     pub fn deal(
         &self,
         alloc: Global,
-        seed: &[u8; 32],
-        index: u32,
-        bits: &[u8],
+        given: SeededBytes<'_>,
         buffer: &mut [u8],
-        written: &mut usize,
-    ) -> Result<(), KeptFault>
-        ensures ok { OnOk result
-            (IsDealtAt self.now.netlist seed.now index bits.now buffer.old buffer.new written.new) }
-        ensures fault { IfErr result (HasDealtFault self.now.netlist
-            seed.now index bits.now (length buffer.old) written.new) }
+    ) -> Result<usize, KeptFault>
+        ensures ok { IfOk result (IsDealtAt self.now.netlist given.entry.seed.now
+            given.entry.input.index given.entry.input.bytes.now buffer.old buffer.new) }
+        ensures fault { IfErr result (HasDealtFault self.now.netlist given.entry.seed.now
+            given.entry.input.index given.entry.input.bytes.now (length buffer.old)) }
         ensures unwritten { OnErr result (buffer.new ≡ buffer.old) }
-        ensures unreported { IfErr result (λ fault.
-            fault ≢ KeptFault.SmallBuffer → written.new ≡ written.old) }
     {
-        let bits = self.dealt_bits(alloc, index, bits, buffer, written)?;
-        let seed = Seed::from_bytes(*seed);
+        let index = given.input.index;
+        let bits = self.dealt_bits(alloc, given.input, buffer)?;
+        let seed = Seed::from_bytes(*given.seed);
         let first = first_wire(self.circuit(), index as usize);
         let zero_labels = zero_labels(alloc, &seed, first, bits.len())?;
         let labels = encoded(alloc, offset(&seed), &zero_labels, &bits)?;
-        *written = write_file(index, &labels, buffer);
-        Ok(())
+        Ok(write_file(index, &labels, buffer))
     }
 
-    /// Writes the label file of the input value with this index and these labels, 16 bytes each, and reports the number
-    /// of its bytes. It refuses an index without a value (42), another number of bytes than 16 for each wire of the
-    /// value (66), and a buffer that is too small (61): then `written` is the size that is needed. After another
-    /// fault it is as it was.
+    /// Writes the label file of an input value with these labels, and returns the number of its bytes. It refuses an
+    /// index without a value (42), another number of bytes than 16 for each wire of the value (66), and a buffer that
+    /// is too small (61).
     pub fn label_file(
         &self,
         alloc: Global,
-        index: u32,
-        labels: &[u8],
+        input: InputBytes<'_>,
         buffer: &mut [u8],
-        written: &mut usize,
-    ) -> Result<(), KeptFault>
-        ensures ok { OnOk result
-            (IsReceivedAt self.now.netlist index labels.now buffer.old buffer.new written.new) }
-        ensures fault { IfErr result
-            (HasReceivedFault self.now.netlist index labels.now (length buffer.old) written.new) }
+    ) -> Result<usize, KeptFault>
+        ensures ok { IfOk result (IsReceivedAt self.now.netlist input.entry.index
+            input.entry.bytes.now buffer.old buffer.new) }
+        ensures fault { IfErr result (HasReceivedFault self.now.netlist input.entry.index
+            input.entry.bytes.now (length buffer.old)) }
         ensures unwritten { OnErr result (buffer.new ≡ buffer.old) }
-        ensures unreported { IfErr result (λ fault.
-            fault ≢ KeptFault.SmallBuffer → written.new ≡ written.old) }
     {
-        let width = self.input_width(index)?;
-        if labels.len() != LABEL * width {
+        let width = self.input_width(input.index)?;
+        if input.bytes.len() != LABEL * width {
             return Err(KeptFault::WrongSize);
         }
-        look_for_room(LABEL_HEADER + LABEL * width, buffer, written)?;
-        let Ok(labels) = labels_from_bytes(alloc, labels) else {
+        look_for_room(LABEL_HEADER + LABEL * width, buffer)?;
+        let Ok(labels) = labels_from_bytes(alloc, input.bytes) else {
             return Err(KeptFault::Memory);
         };
-        *written = write_file(index, &labels, buffer);
-        Ok(())
+        Ok(write_file(input.index, &labels, buffer))
     }
 }
 
 impl KeptGarbling {
-    /// Writes the label file of the input value with this index, for these bits, and reports the number of its bytes.
-    /// The refusals are those of [`KeptCircuit::deal`].
+    /// Writes the label file of an input value, for its bits, and returns the number of its bytes. The refusals are
+    /// those of [`KeptCircuit::deal`].
     pub fn deal(
         &self,
         alloc: Global,
-        index: u32,
-        bits: &[u8],
+        input: InputBytes<'_>,
         buffer: &mut [u8],
-        written: &mut usize,
-    ) -> Result<(), KeptFault>
-        ensures ok { OnOk result
-            (IsDealtFrom self.now index bits.now buffer.old buffer.new written.new) }
-        ensures fault { IfErr result
-            (HasDealtFaultFrom self.now index bits.now (length buffer.old) written.new) }
+    ) -> Result<usize, KeptFault>
+        ensures ok { IfOk result (IsDealtFrom self.now input.entry.index input.entry.bytes.now
+            buffer.old buffer.new) }
+        ensures fault { IfErr result (HasDealtFaultFrom self.now input.entry.index
+            input.entry.bytes.now (length buffer.old)) }
         ensures unwritten { OnErr result (buffer.new ≡ buffer.old) }
-        ensures unreported { IfErr result (λ fault.
-            fault ≢ KeptFault.SmallBuffer → written.new ≡ written.old) }
     {
-        let circuit = self.circuit();
-        let bits = circuit.dealt_bits(alloc, index, bits, buffer, written)?;
-        let zero_labels = self.input_zero_labels(index, bits.len());
+        let bits = self.circuit().dealt_bits(alloc, input, buffer)?;
+        let zero_labels = self.input_zero_labels(input.index, bits.len());
         let labels = encoded(alloc, self.offset, zero_labels, &bits)?;
-        *written = write_file(index, &labels, buffer);
-        Ok(())
+        Ok(write_file(input.index, &labels, buffer))
     }
 }

@@ -49,7 +49,7 @@ pub use given::StartBytes;
 pub use held::Held;
 pub use job::{JobBytes, KeptJob};
 pub use jobs::evaluate_list;
-pub use many::Pace;
+pub use label_file::{InputBytes, SeededBytes};
 pub use version::version_of;
 
 /// How many row pairs are made or used at a time.

@@ -11,67 +11,27 @@ use gc_half::{FirstAnd, garble_two};
 use gc_label::{Seed, offset};
 use std::alloc::Global;
 
-/// How many garblings of a list are made at a time.
-#[derive(Clone, Copy, PartialEq, Eq, Debug)]
-pub enum Pace {
-    /// One after another.
-    One,
-    /// Two side by side.
-    Two,
-}
-
 impl KeptCircuit {
-    /// Garbles the circuit under each of these seeds on one thread. Each garbling is what [`KeptCircuit::garble`]
-    /// returns for its seed, whatever the pace.
+    /// Garbles the circuit under each of these seeds on one thread, one after another or two at a time. Each garbling is
+    /// what [`KeptCircuit::garble`] returns for its seed.
     pub fn garble_many(
         &self,
         alloc: Global,
         seeds: &[[u8; 32]],
-        pace: Pace,
-    ) -> Result<Vec<KeptGarbling, Global>, KeptFault>
-        ensures ok { IfOk result (λ made. AllZip (IsGarblingUnder self.now) seeds.now made.items) }
-        ensures fault { IfErr result IsWantOfMemory }
-    {
-        match pace {
-            Pace::One => self.garble_each(alloc, seeds),
-            Pace::Two => self.garble_pairs(alloc, seeds),
-        }
-    }
-
-    /// Garbles the circuit under each of these seeds, one after another.
-    fn garble_each(
-        &self,
-        alloc: Global,
-        seeds: &[[u8; 32]],
+        side_by_side: bool,
     ) -> Result<Vec<KeptGarbling, Global>, KeptFault>
         ensures ok { IfOk result (λ made. AllZip (IsGarblingUnder self.now) seeds.now made.items) }
         ensures fault { IfErr result IsWantOfMemory }
     {
         let mut made = Vec::with_capacity(alloc, seeds.len())?;
-        for seed in seeds {
-            made.push(self.garble(alloc, seed)?)?;
-        }
-        Ok(made)
-    }
-
-    /// Garbles the circuit under each of these seeds, two at a time.
-    fn garble_pairs(
-        &self,
-        alloc: Global,
-        seeds: &[[u8; 32]],
-    ) -> Result<Vec<KeptGarbling, Global>, KeptFault>
-        ensures ok { IfOk result (λ made. AllZip (IsGarblingUnder self.now) seeds.now made.items) }
-        ensures fault { IfErr result IsWantOfMemory }
-    {
-        let mut made = Vec::with_capacity(alloc, seeds.len())?;
-        let pairs = seeds.len() / 2;
+        let pairs = if side_by_side { seeds.len() / 2 } else { 0 };
         for i in 0..pairs {
             let (one, other) = self.garble_two(alloc, &seeds[2 * i], &seeds[2 * i + 1])?;
             made.push(one)?;
             made.push(other)?;
         }
-        if 2 * pairs < seeds.len() {
-            made.push(self.garble(alloc, &seeds[2 * pairs])?)?;
+        for seed in &seeds[2 * pairs..] {
+            made.push(self.garble(alloc, seed)?)?;
         }
         Ok(made)
     }

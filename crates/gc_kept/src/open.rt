@@ -53,9 +53,9 @@ impl KeptGarbling {
 /// before that is decided. The caller ensures that there are 16 bytes for each wire.
 fn are_right(offset: Offset, zero_labels: &[Label], labels: &[u8]) -> bool
     requires { length labels.now ≡ 16 * length zero_labels.now }
-    ensures right { IsTrue result → (active : List ℕ) → AreLabels labels.now active
-        → (bits : List Bool) × (active ≡ encoded_with offset (slice_index zero_labels.now) 0 bits) }
-    ensures wrong { IsFalse result → (active : List ℕ) → AreLabels labels.now active
+    ensures right { IsTrue result → (bits : List Bool)
+        × AreLabels labels.now (encoded_with offset (slice_index zero_labels.now) 0 bits) }
+    ensures wrong { IsFalse result
         → HasWrongLabel offset (slice_index zero_labels.now) 0 labels.now }
 {
     let mut all = true;

@@ -43,8 +43,7 @@ impl KeptCircuit {
         ensures unwritten { OnErr result (outputs.new ≡ outputs.old) }
     {
         let circuit = self.circuit();
-        let room = circuit.output_wires() as usize;
-        has_room(room, outputs)?;
+        has_room(circuit.output_wires() as usize, outputs)?;
         let bits = read_bits(alloc, bits, circuit.input_wires() as usize)?;
         let Ok(values) = values_of(alloc, circuit.input_widths(), &bits) else {
             return Err(KeptFault::Circuit(ReadFault::Memory));
@@ -52,7 +51,7 @@ impl KeptCircuit {
         let Ok(found) = plain_eval(alloc, circuit, &values) else {
             return Err(KeptFault::Circuit(ReadFault::Memory));
         };
-        write_bits(&found, &mut outputs[..room]);
+        write_bits(&found, outputs);
         Ok(())
     }
 }

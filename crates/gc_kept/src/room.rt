@@ -1,7 +1,7 @@
 //! Buffers without room.
 
-ghost use Rattle.std.specs.Prelude.{◌≡◌, ◌<◌, ◌≤◌, length, IfErr, OnOk, OnErr};
-ghost use Rattle.gc_kept.specs.Files.{HasRoomFault};
+ghost use Rattle.std.specs.Prelude.{◌≤◌, length, IfErr, OnOk};
+ghost use Rattle.gc_kept.specs.Files.{HasRoomFault, LacksRoom};
 
 use crate::fault::KeptFault;
 
@@ -16,22 +16,10 @@ pub(crate) fn has_room(size: usize, buffer: &[u8]) -> Result<(), KeptFault>
     Ok(())
 }
 
-/// The same for a file of this size. Only where there is no room, it reports the size.
-pub(crate) fn look_for_room(
-    size: usize,
-    buffer: &[u8],
-    written: &mut usize,
-) -> Result<(), KeptFault>
+/// The same for a file of this size, which the fault has.
+pub(crate) fn look_for_room(size: usize, buffer: &[u8]) -> Result<(), KeptFault>
     ensures ok { OnOk result (size ≤ length buffer.now) }
-    ensures fault { IfErr result (HasRoomFault size (length buffer.now)) }
-    ensures written { OnErr result (written.new ≡ size) }
-    ensures unreported { OnOk result (written.new ≡ written.old) }
+    ensures fault { IfErr result (LacksRoom size (length buffer.now)) }
 {
-    match has_room(size, buffer) {
-        Ok(()) => Ok(()),
-        Err(fault) => {
-            *written = size;
-            Err(fault)
-        }
-    }
+    has_room(size, buffer).map_err(|_| KeptFault::NeedsRoom(size))
 }

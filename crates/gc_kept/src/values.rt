@@ -11,7 +11,7 @@ ghost use Rattle.gc_kept.specs.Files.{IsFileAt, HasRoomFault};
 ghost use Rattle.gc_kept.specs.Labels.{AreValueLabels, HasValueLabelsFault, first_output_of, zero_labels_from};
 
 use crate::bits::bit_byte;
-use crate::both::write_both;
+use crate::both::{labels_of, write_both};
 use crate::fault::KeptFault;
 use crate::garbling::KeptGarbling;
 use crate::room::has_room;
@@ -50,7 +50,7 @@ impl KeptGarbling {
         ensures one_unwritten { OnErr result (one.new ≡ one.old) }
     {
         let width = self.circuit().input_width(index)?;
-        self.write_both(self.input_zero_labels(index, width), zero, one)
+        write_both(self.input_zero_labels(index, width), self.offset, zero, one)
     }
 
     /// Writes both labels of each wire of the output value with this index, as [`KeptGarbling::input_labels`] does
@@ -69,7 +69,12 @@ impl KeptGarbling {
         ensures one_unwritten { OnErr result (one.new ≡ one.old) }
     {
         let width = self.circuit().output_width(index)?;
-        self.write_both(self.output_zero_labels(index, width), zero, one)
+        write_both(
+            self.output_zero_labels(index, width),
+            self.offset,
+            zero,
+            one,
+        )
     }
 
     /// The zero labels of the input value with this index. The caller ensures that this is its width.
@@ -81,7 +86,7 @@ impl KeptGarbling {
     {
         self.law_garbled();
         let from = first_wire(self.circuit().circuit(), index as usize) as usize;
-        self.zero_labels_from(from, width)
+        labels_of(self.garbling.zero_labels(), from, width)
     }
 
     /// The same of the output value with this index.
@@ -93,32 +98,7 @@ impl KeptGarbling {
     {
         self.law_garbled();
         let from = first_output(self.circuit().circuit(), index as usize) as usize;
-        self.zero_labels_from(from, width)
-    }
-
-    /// The zero labels of `count` wires, from wire `from` on. The caller ensures that there are such wires.
-    fn zero_labels_from(&self, from: usize, count: usize) -> &[Label]
-        requires { from + count ≤ length self.now.garbling.zero_labels }
-        ensures labels { result.now ≡ zero_labels_from self.now from count }
-        ensures count { length result.now ≡ count }
-    {
-        &self.garbling.zero_labels()[from..from + count]
-    }
-
-    /// Writes both labels of each wire that has one of these zero labels.
-    fn write_both(&self, labels: &[Label], zero: &mut [u8], one: &mut [u8]) -> Result<(), KeptFault>
-        ensures zero { OnOk result
-            (IsFileAt (flat_map bytes_of_label labels.now) zero.old zero.new) }
-        ensures one { OnOk result (IsFileAt
-            (flat_map bytes_of_label (map (λ label. label ⊕ self.now.offset) labels.now))
-            one.old one.new) }
-        ensures fault { IfErr result (λ fault. (fault ≡ KeptFault.SmallBuffer)
-            × ((length zero.old < 16 * length labels.now)
-            ⊎ (length one.old < 16 * length labels.now))) }
-        ensures zero_unwritten { OnErr result (zero.new ≡ zero.old) }
-        ensures one_unwritten { OnErr result (one.new ≡ one.old) }
-    {
-        write_both(labels, self.offset, zero, one)
+        labels_of(self.garbling.zero_labels(), from, width)
     }
 
     /// Writes the row pairs, 32 bytes for each AND gate in file order, to the front of a buffer: the generator's row,

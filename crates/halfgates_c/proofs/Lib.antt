@@ -6,3 +6,4 @@ mod ManyLemmas
 mod Pair
 mod Recast
 mod Walk
+pub mod ReportLemmas

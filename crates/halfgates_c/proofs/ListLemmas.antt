@@ -1,12 +1,12 @@
 -- Lists of handles, and the things that they hold.
-use Rattle.std.proofs.Common.{◌≡◌, ℕ, ◌+◌, ◌<◌, ℤ, inl, inr, Option, Some, None, List, [], ◌∷◌, ◌++◌, length, map, take, drop, get_or, refl, sym, ◌∙◌, ap}
+use Rattle.std.proofs.Common.{◌≡◌, ◌⊎◌, ℕ, ◌+◌, ◌<◌, ℤ, pos, inl, inr, Option, Some, None, List, [], ◌∷◌, ◌++◌, length, map, take, drop, get_or, refl, sym, ◌∙◌, ap}
 use Rattle.std.proofs.lemmas.List.{drop_more, map-append, take-append-drop}
 use Rattle.halfgates_c.specs.declared.borrow.Borrow.{Borrow}
 use Rattle.gc_job.specs.Job.{JobParts}
 use Rattle.gc_kept.specs.Garbling.{GarblingWith}
 use Rattle.gc_kept.specs.declared.held.Held.{Held}
 use Rattle.gc_kept.specs.declared.held.Held.TheVariants.{Circuit, Garbling, Job, Garbler, Evaluator}
-use Rattle.halfgates_c.specs.Holding.{OfEach, OfGarbling, OfGarblings, OfJob, OfJobs, OfNoGarblings, OfNoJobs}
+use Rattle.halfgates_c.specs.Holding.{OfEach, OfGarbling, OfJob}
 use Rattle.halfgates_c.specs.Borrowing.{handle_of}
 
 -- What is borrowed is what the handles hold.
@@ -17,13 +17,13 @@ held_of [] = refl
 held_of (borrow ∷ borrows) = ap (λ rest. borrow.value ∷ rest) (held_of borrows)
 
 -- What is said of one handle: of a thing that it holds all that is true of the thing, and what follows from that.
-record IsSaid {X : Type 0} (OfOne : Option Held → (code : ℤ) → (X → Type 0) → Type 0)
+pub record IsSaid {X : Type 0} (OfOne : Option Held → (code : ℤ) → (X → Type 0) → Type 0)
     (held_in : X → Held) : Type 1 where
-  of_it : (it : X) (code : ℤ) (P : X → Type 0) → P it → OfOne (Some (held_in it)) code P
-  so_too : (held : Option Held) (code : ℤ) (P Q : X → Type 0) → ((it : X) → P it → Q it)
+  pub of_it : (it : X) (code : ℤ) (P : X → Type 0) → P it → OfOne (Some (held_in it)) code P
+  pub so_too : (held : Option Held) (code : ℤ) (P Q : X → Type 0) → ((it : X) → P it → Q it)
       → OfOne held code P → OfOne held code Q
 
-garbling_is : IsSaid OfGarbling Garbling
+pub garbling_is : IsSaid OfGarbling Garbling
 garbling_is = record {
   of_it = λ it code P so. so;
   so_too = so_too;
@@ -38,7 +38,7 @@ garbling_is = record {
     so_too (Some (Garbler it)) code P Q so said = said
     so_too (Some (Evaluator it)) code P Q so said = said
 
-job_is : IsSaid OfJob Job
+pub job_is : IsSaid OfJob Job
 job_is = record {
   of_it = λ it code P so. so;
   so_too = so_too;
@@ -63,21 +63,27 @@ module _ {X : Type 0} (OfOne : Option Held → (code : ℤ) → (X → Type 0) �
   first_without (it ∷ things) held others code lacks =
       is.of_it it code _ (first_without things held others code lacks)
 
-  -- It does so whatever a call says of such things.
+  -- It does so whatever a call says of such things, as does missing memory.
   each_of : (held : List (Option Held)) (code : ℤ) (P : List X → Type 0)
       → OfEach OfOne held code (λ its. ⊥) → OfEach OfOne held code P
   each_of [] code P lacks = absurd lacks
   each_of (held ∷ others) code P lacks =
       is.so_too held code _ _ (λ it. each_of others code (λ its. P (it ∷ its))) lacks
 
+  pub none_of : (held : List (Option Held)) (code : ℤ) (P : List X → Type 0)
+      → (code ≡ pos 62) ⊎ OfEach OfOne held code (λ its. ⊥)
+      → (code ≡ pos 62) ⊎ OfEach OfOne held code P
+  none_of held code P (inl want) = inl want
+  none_of held code P (inr lacks) = inr (each_of held code P lacks)
+
   -- All hold such things.
-  all_of : (things : List X) (code : ℤ) (P : List X → Type 0) → P things
+  pub all_of : (things : List X) (code : ℤ) (P : List X → Type 0) → P things
       → OfEach OfOne (map (λ it. Some (held_in it)) things) code P
   all_of [] code P so = so
   all_of (it ∷ things) code P so = is.of_it it code _ (all_of things code (λ its. P (it ∷ its)) so)
 
   -- One in a list holds none.
-  until : {Y T : Type 0} (ys : List Y) (ts : List T) (value_in : Y → Option Held) (thing_in : T → X)
+  pub until : {Y T : Type 0} (ys : List Y) (ts : List T) (value_in : Y → Option Held) (thing_in : T → X)
       (i : ℕ) (y : Y) (code : ℤ) → i < length ys → y ≡ get_or ys i y
       → map value_in (take i ys) ≡ map (λ it. Some (held_in it)) (map thing_in ts)
       → OfOne (value_in y) code (λ it. ⊥) → OfEach OfOne (map value_in ys) code (λ its. ⊥)
@@ -90,39 +96,3 @@ module _ {X : Type 0} (OfOne : Option Held → (code : ℤ) → (X → Type 0) �
       ∙ map-append value_in (take i ys) (y ∷ drop (i + 1) ys) in
       rw (split, before) (first_without (map thing_in ts) (value_in y)
       (map value_in (drop (i + 1) ys)) code lacks)
-
--- The same of garblings,
-pub no_garblings : (held : List (Option Held)) (code : ℤ) (P : List GarblingWith → Type 0)
-    → OfNoGarblings held code → OfGarblings held code P
-no_garblings held code P (inl want) = inl want
-no_garblings held code P (inr lacks) = inr (each_of OfGarbling Garbling garbling_is held code P
-    lacks)
-
-pub all_garblings : (garblings : List GarblingWith) (code : ℤ) (P : List GarblingWith → Type 0)
-    → P garblings → OfEach OfGarbling (map (λ g. Some (Garbling g)) garblings) code P
-all_garblings = all_of OfGarbling Garbling garbling_is
-
-pub garblings_until : {Y T : Type 0} (ys : List Y) (ts : List T) (value_in : Y → Option Held)
-    (garbling_in : T → GarblingWith) (i : ℕ) (y : Y) (code : ℤ) → i < length ys → y ≡ get_or ys i y
-    → map value_in (take i ys) ≡ map (λ g. Some (Garbling g)) (map garbling_in ts)
-    → OfGarbling (value_in y) code (λ g. ⊥) → OfNoGarblings (map value_in ys) code
-garblings_until ys ts value_in garbling_in i y code within at before lacks =
-    inr (until OfGarbling Garbling garbling_is ys ts value_in garbling_in i y code within at before
-    lacks)
-
--- and of jobs.
-pub no_jobs : (held : List (Option Held)) (code : ℤ) (P : List JobParts → Type 0)
-    → OfNoJobs held code → OfJobs held code P
-no_jobs held code P (inl want) = inl want
-no_jobs held code P (inr lacks) = inr (each_of OfJob Job job_is held code P lacks)
-
-pub all_jobs : (jobs : List JobParts) (code : ℤ) (P : List JobParts → Type 0) → P jobs
-    → OfEach OfJob (map (λ j. Some (Job j)) jobs) code P
-all_jobs = all_of OfJob Job job_is
-
-pub jobs_until : {Y T : Type 0} (ys : List Y) (ts : List T) (value_in : Y → Option Held)
-    (job_in : T → JobParts) (i : ℕ) (y : Y) (code : ℤ) → i < length ys → y ≡ get_or ys i y
-    → map value_in (take i ys) ≡ map (λ j. Some (Job j)) (map job_in ts)
-    → OfJob (value_in y) code (λ job. ⊥) → OfNoJobs (map value_in ys) code
-jobs_until ys ts value_in job_in i y code within at before lacks =
-    inr (until OfJob Job job_is ys ts value_in job_in i y code within at before lacks)

@@ -57,27 +57,33 @@ fn write_found(found: &LabelsVerdict<Global>, bits: &mut [u8]) -> Result<(), Kep
     if bits.len() < found.len() {
         return Err(KeptFault::SmallBuffer);
     }
-    write_bits(found, &mut bits[..found.len()]);
+    write_bits(found, bits);
     Ok(())
+}
+
+/// A label file, and the garbling with which it is compared.
+#[derive(Clone, Copy)]
+struct Compared<'a> {
+    garbling: &'a KeptGarbling,
+    file: &'a [u8],
 }
 
 /// Compares a label file with a garbling, and writes a report and the bits that are found.
 fn audit(
     alloc: Global,
-    garbling: &KeptGarbling,
-    file: &[u8],
+    of: Compared<'_>,
     bits: &mut [u8],
     report: &mut LabelsReport,
 ) -> Result<(), KeptFault>
-    ensures ok { OnOk result
-        (IsLabelsReportOn garbling.now file.now bits.old bits.new report.new) }
-    ensures fault { IfErr result
-        (HasReportFault garbling.now file.now (length bits.old) report.new) }
+    ensures ok { OnOk result (IsLabelsReportOn of.entry.garbling.now of.entry.file.now
+        bits.old bits.new report.new) }
+    ensures fault { IfErr result (HasReportFault of.entry.garbling.now of.entry.file.now
+        (length bits.old) report.new) }
     ensures unwritten { OnErr result (bits.new ≡ bits.old) }
     ensures unreported { IfErr result (λ fault.
         fault ≢ KeptFault.SmallBuffer → report.new ≡ report.old) }
 {
-    let (index, found) = garbling.audit_labels(alloc, file)?;
+    let (index, found) = of.garbling.audit_labels(alloc, of.file)?;
     *report = report_of(index, &found);
     write_found(&found, bits)
 }
@@ -103,6 +109,6 @@ pub extern "C" fn halfgates_audit_labels(
         return NULL_POINTER;
     }
     on_held!(garbling, Garbling(garbling) => {
-        code_of(audit(alloc, garbling, file, bits, report))
+        code_of(audit(alloc, Compared { garbling, file }, bits, report))
     })
 }

@@ -122,16 +122,6 @@ pub extern "C" fn halfgates_circuit_take_digest(alloc: Global, circuit: &mut Slo
     code
 }
 
-/// Hands out one more handle of a circuit.
-fn share(alloc: Global, circuit: &KeptCircuit, slot: &mut Slot) -> Result<(), KeptFault>
-    ensures ok { OnOk result (HoldsShared circuit.now slot.new) }
-    ensures fault { IfErr result (λ fault. fault ≡ KeptFault.Memory) }
-    ensures kept { OnErr result (slot.new ≡ slot.old) }
-{
-    let other = circuit.again()?;
-    slot.hand_out(alloc, Held::Circuit(other))
-}
-
 /// One more handle of a circuit.
 #[unsafe(no_mangle)]
 pub extern "C" fn halfgates_circuit_share(
@@ -148,19 +138,10 @@ pub extern "C" fn halfgates_circuit_share(
     if is_null(other) {
         return NULL_POINTER;
     }
-    on_held!(circuit, Circuit(circuit) => {
-        code_of(share(alloc, circuit, other))
+    on_held!(circuit, Circuit(circuit) => match circuit.again() {
+        Ok(made) => code_of(other.hand_out(alloc, Held::Circuit(made))),
+        Err(fault) => code_of(Err(fault)),
     })
-}
-
-/// Puts the gates of a circuit in order, and hands out the circuit of these.
-fn order(alloc: Global, circuit: &KeptCircuit, slot: &mut Slot) -> Result<(), KeptFault>
-    ensures ok { OnOk result (HoldsOrdered circuit.now slot.new) }
-    ensures fault { IfErr result (λ fault. fault ≡ KeptFault.Memory) }
-    ensures kept { OnErr result (slot.new ≡ slot.old) }
-{
-    let ordered = circuit.ordered(alloc)?;
-    slot.hand_out(alloc, Held::Circuit(ordered))
 }
 
 /// The circuit with its gates in order of AND depth.
@@ -179,8 +160,9 @@ pub extern "C" fn halfgates_circuit_order(
     if is_null(ordered) {
         return NULL_POINTER;
     }
-    on_held!(circuit, Circuit(circuit) => {
-        code_of(order(alloc, circuit, ordered))
+    on_held!(circuit, Circuit(circuit) => match circuit.ordered(alloc) {
+        Ok(made) => code_of(ordered.hand_out(alloc, Held::Circuit(made))),
+        Err(fault) => code_of(Err(fault)),
     })
 }
 

@@ -1,7 +1,8 @@
 //! Codes.
 
-ghost use Rattle.std.specs.Prelude.{◌≡◌, ◌≢◌, pos, OnOk, OnErr, IfErr};
+ghost use Rattle.std.specs.Prelude.{◌≡◌, ◌≢◌, pos, OnOk, OnErr, IfOk, IfErr};
 ghost use Rattle.gc_kept.specs.Fault.{code_of};
+ghost use Rattle.halfgates_c.specs.Answers.{IsReported};
 
 use gc_kept::KeptFault;
 
@@ -36,4 +37,19 @@ pub(crate) fn code_of(outcome: Result<(), KeptFault>) -> i32
         Ok(()) => OK,
         Err(fault) => fault.code() as i32,
     }
+}
+
+/// The code of a call that writes to a buffer: it reports how many bytes are written, or how many need room.
+pub(crate) fn report(outcome: Result<usize, KeptFault>, written: &mut usize) -> i32
+    ensures done { IfOk outcome (λ size. (result ≡ pos 0) × (written.new ≡ size)) }
+    ensures fault { IfErr outcome (λ fault.
+        (result ≡ pos (code_of fault)) × IsReported written.new fault) }
+    ensures some { OnErr outcome (result ≢ pos 0) }
+    ensures unreported { result ≢ pos 0 → result ≢ pos 61 → written.new ≡ written.old }
+{
+    match outcome {
+        Ok(size) | Err(KeptFault::NeedsRoom(size)) => *written = size,
+        Err(_) => {}
+    }
+    code_of(outcome.map(|_| ()))
 }

@@ -3,31 +3,39 @@
 ghost use Rattle.std.specs.Prelude.{◌≡◌, ◌≢◌, Some, OnOk, OnErr, IfErr, length, pos};
 ghost use Rattle.core.specs.Ptr.{as_mut_ptr};
 ghost use denote.RawPtr.{Testable};
-ghost use Rattle.gc_kept.specs.Evaluator.{HasBeginFault, UsesWhole, HasFeedFault, AreFoundLabels, HasFoundFault};
+ghost use Rattle.gc_kept.specs.Evaluator.{HasBeginFault, HasFeedFault, AreFoundLabels, HasFoundFault};
 ghost use Rattle.halfgates_c.specs.Answers.{Answers};
 ghost use Rattle.halfgates_c.specs.Holding.{OfCircuit, OfEvaluator};
 ghost use Rattle.halfgates_c.specs.InProgress.{HoldsBegunOn, HoldsFed};
 
-use crate::code::{NULL_POINTER, WRONG_HANDLE, code_of};
+use crate::code::{NULL_POINTER, WRONG_HANDLE, code_of, report};
 use crate::handle::{Handle, on_held};
 use crate::null::is_null;
 use crate::slot::Slot;
-use gc_kept::{Held, KeptCircuit, KeptEvaluator, KeptFault};
+use gc_kept::{Held, KeptCircuit, KeptFault};
 use std::alloc::Global;
+
+/// What an evaluation begins with: the number of the first AND gate, and the active labels of all input wires.
+#[derive(Clone, Copy)]
+struct Start<'a> {
+    first: u64,
+    labels: &'a [u8],
+}
 
 /// Begins to evaluate a circuit on labels, and hands the evaluator out.
 fn begin(
     alloc: Global,
     circuit: &KeptCircuit,
-    first: u64,
-    labels: &[u8],
+    start: Start<'_>,
     slot: &mut Slot,
 ) -> Result<(), KeptFault>
-    ensures ok { OnOk result (HoldsBegunOn circuit.now.netlist first labels.now slot.new) }
-    ensures fault { IfErr result (HasBeginFault circuit.now.netlist first labels.now) }
+    ensures ok { OnOk result
+        (HoldsBegunOn circuit.now.netlist start.entry.first start.entry.labels.now slot.new) }
+    ensures fault { IfErr result
+        (HasBeginFault circuit.now.netlist start.entry.first start.entry.labels.now) }
     ensures kept { OnErr result (slot.new ≡ slot.old) }
 {
-    let evaluator = circuit.begin_evaluating(alloc, first, labels)?;
+    let evaluator = circuit.begin_evaluating(alloc, start.first, start.labels)?;
     slot.hand_out(alloc, Held::Evaluator(evaluator))
 }
 
@@ -51,7 +59,7 @@ pub extern "C" fn halfgates_evaluator_begin(
         return NULL_POINTER;
     }
     on_held!(circuit, Circuit(circuit) => {
-        code_of(begin(alloc, circuit, first, labels, evaluator))
+        code_of(begin(alloc, circuit, Start { first, labels }, evaluator))
     })
 }
 
@@ -59,17 +67,6 @@ pub extern "C" fn halfgates_evaluator_begin(
 #[unsafe(no_mangle)]
 pub extern "C" fn halfgates_evaluator_free(evaluator: Slot) {
     drop(evaluator);
-}
-
-/// Uses the whole row pairs in these bytes, and writes how many bytes they have.
-fn feed(evaluator: &mut KeptEvaluator, rows: &[u8], taken: &mut usize) -> Result<(), KeptFault>
-    ensures ok { OnOk result (UsesWhole evaluator.old evaluator.new rows.now taken.new) }
-    ensures fault { IfErr result (HasFeedFault evaluator.old (length rows.now)) }
-    ensures kept { OnErr result (evaluator.new ≡ evaluator.old) }
-    ensures unreported { OnErr result (taken.new ≡ taken.old) }
-{
-    *taken = evaluator.feed(rows)?;
-    Ok(())
 }
 
 /// Uses the whole row pairs in these bytes, if what is held is an evaluator.
@@ -81,7 +78,7 @@ fn feed_to(held: &mut Held, rows: &[u8], taken: &mut usize) -> i32
     ensures unreported { result ≢ pos 0 → taken.new ≡ taken.old }
 {
     match held {
-        Held::Evaluator(evaluator) => code_of(feed(evaluator, rows, taken)),
+        Held::Evaluator(evaluator) => report(evaluator.feed(rows), taken),
         _ => WRONG_HANDLE,
     }
 }

@@ -8,13 +8,13 @@ ghost use Rattle.gc_file.specs.Honest.{IsFileSize};
 ghost use Rattle.gc_kept.specs.Version.{version_of};
 ghost use Rattle.gc_kept.specs.Files.{IsDealtAt, IsDealtFrom, IsGarbledAt, IsWholeFileAt, HasDealtFault, HasDealtFaultFrom, HasFileFault, HasWriteFault};
 ghost use Rattle.gc_kept.specs.Labels.{IsReceivedAt, HasReceivedFault};
-ghost use Rattle.halfgates_c.specs.Answers.{Answers};
+ghost use Rattle.halfgates_c.specs.Answers.{AnswersWritten};
 ghost use Rattle.halfgates_c.specs.Holding.{OfCircuit, OfGarbling, circuit_of};
 
-use crate::code::{BAD_ARGUMENT, NULL_POINTER, code_of};
+use crate::code::{BAD_ARGUMENT, NULL_POINTER, report};
 use crate::handle::{Handle, on_held};
 use crate::null::is_null;
-use gc_kept::{KeptGarbling, version_of};
+use gc_kept::{InputBytes, KeptGarbling, SeededBytes, version_of};
 use std::alloc::Global;
 
 /// Writes the canonical text of a circuit.
@@ -27,8 +27,8 @@ pub extern "C" fn halfgates_circuit_text(
 ) -> i32
     requires written { Testable (as_mut_ptr written) }
     ensures answer { OfCircuit circuit.old.held result (λ c.
-        Answers result (IsWholeFileAt (canonical_text c) buffer.old buffer.new written.new)
-        (HasWriteFault (canonical_text c) (length buffer.old) written.new)) }
+        AnswersWritten result written.new (IsWholeFileAt (canonical_text c) buffer.old buffer.new)
+        (HasWriteFault (canonical_text c) (length buffer.old))) }
     ensures back { circuit.new ≡ circuit.old }
     ensures kept { result ≢ pos 0 → buffer.new ≡ buffer.old }
     ensures unreported { result ≢ pos 0 → result ≢ pos 61 → written.new ≡ written.old }
@@ -37,7 +37,7 @@ pub extern "C" fn halfgates_circuit_text(
         return NULL_POINTER;
     }
     on_held!(circuit, Circuit(circuit) => {
-        code_of(circuit.write_text(alloc, buffer, written))
+        report(circuit.write_text(alloc, buffer), written)
     })
 }
 
@@ -54,22 +54,24 @@ pub extern "C" fn halfgates_garbled_size(circuit: &mut Handle, version: u32) -> 
     }, wrong 0, null 0)
 }
 
-/// Writes the garbled file of a version.
-fn write_version(
-    alloc: Global,
-    garbling: &KeptGarbling,
+/// A garbling, and the number of the version of its file.
+#[derive(Clone, Copy)]
+struct Versioned<'a> {
+    garbling: &'a KeptGarbling,
     version: u32,
-    buffer: &mut [u8],
-    written: &mut usize,
-) -> i32
-    ensures answer { MatchOption (version_of version) (result ≡ pos 60) (λ v.
-        Answers result (IsGarbledAt garbling.now v buffer.old buffer.new written.new)
-        (HasFileFault garbling.now v (length buffer.old) written.new)) }
+}
+
+/// Writes the garbled file of a version.
+fn write_version(alloc: Global, of: Versioned<'_>, buffer: &mut [u8], written: &mut usize) -> i32
+    ensures answer { MatchOption (version_of of.entry.version) (result ≡ pos 60) (λ v.
+        AnswersWritten result written.new
+        (IsGarbledAt of.entry.garbling.now v buffer.old buffer.new)
+        (HasFileFault of.entry.garbling.now v (length buffer.old))) }
     ensures kept { result ≢ pos 0 → buffer.new ≡ buffer.old }
     ensures unreported { result ≢ pos 0 → result ≢ pos 61 → written.new ≡ written.old }
 {
-    match version_of(version) {
-        Some(version) => code_of(garbling.write(alloc, version, buffer, written)),
+    match version_of(of.version) {
+        Some(version) => report(of.garbling.write(alloc, version, buffer), written),
         None => BAD_ARGUMENT,
     }
 }
@@ -86,8 +88,8 @@ pub extern "C" fn halfgates_garbling_write(
     requires written { Testable (as_mut_ptr written) }
     ensures answer { OfGarbling garbling.old.held result (λ g.
         MatchOption (version_of version) (result ≡ pos 60) (λ v.
-        Answers result (IsGarbledAt g v buffer.old buffer.new written.new)
-        (HasFileFault g v (length buffer.old) written.new))) }
+        AnswersWritten result written.new (IsGarbledAt g v buffer.old buffer.new)
+        (HasFileFault g v (length buffer.old)))) }
     ensures back { garbling.new ≡ garbling.old }
     ensures kept { result ≢ pos 0 → buffer.new ≡ buffer.old }
     ensures unreported { result ≢ pos 0 → result ≢ pos 61 → written.new ≡ written.old }
@@ -96,7 +98,7 @@ pub extern "C" fn halfgates_garbling_write(
         return NULL_POINTER;
     }
     on_held!(garbling, Garbling(garbling) => {
-        write_version(alloc, garbling, version, buffer, written)
+        write_version(alloc, Versioned { garbling, version }, buffer, written)
     })
 }
 
@@ -114,8 +116,9 @@ pub extern "C" fn halfgates_deal(
     requires seed { Testable (as_ptr seed) }
     requires written { Testable (as_mut_ptr written) }
     ensures answer { OfCircuit circuit.old.held result (λ c.
-        Answers result (IsDealtAt c seed.now index bits.now buffer.old buffer.new written.new)
-        (HasDealtFault c seed.now index bits.now (length buffer.old) written.new)) }
+        AnswersWritten result written.new
+        (IsDealtAt c seed.now index bits.now buffer.old buffer.new)
+        (HasDealtFault c seed.now index bits.now (length buffer.old))) }
     ensures back { circuit.new ≡ circuit.old }
     ensures kept { result ≢ pos 0 → buffer.new ≡ buffer.old }
     ensures unreported { result ≢ pos 0 → result ≢ pos 61 → written.new ≡ written.old }
@@ -123,8 +126,9 @@ pub extern "C" fn halfgates_deal(
     if is_null(seed) || is_null(written) {
         return NULL_POINTER;
     }
+    let input = InputBytes { index, bytes: bits };
     on_held!(circuit, Circuit(circuit) => {
-        code_of(circuit.deal(alloc, seed, index, bits, buffer, written))
+        report(circuit.deal(alloc, SeededBytes { seed, input }, buffer), written)
     })
 }
 
@@ -140,8 +144,8 @@ pub extern "C" fn halfgates_garbling_deal(
 ) -> i32
     requires written { Testable (as_mut_ptr written) }
     ensures answer { OfGarbling garbling.old.held result (λ g.
-        Answers result (IsDealtFrom g index bits.now buffer.old buffer.new written.new)
-        (HasDealtFaultFrom g index bits.now (length buffer.old) written.new)) }
+        AnswersWritten result written.new (IsDealtFrom g index bits.now buffer.old buffer.new)
+        (HasDealtFaultFrom g index bits.now (length buffer.old))) }
     ensures back { garbling.new ≡ garbling.old }
     ensures kept { result ≢ pos 0 → buffer.new ≡ buffer.old }
     ensures unreported { result ≢ pos 0 → result ≢ pos 61 → written.new ≡ written.old }
@@ -150,7 +154,7 @@ pub extern "C" fn halfgates_garbling_deal(
         return NULL_POINTER;
     }
     on_held!(garbling, Garbling(garbling) => {
-        code_of(garbling.deal(alloc, index, bits, buffer, written))
+        report(garbling.deal(alloc, InputBytes { index, bytes: bits }, buffer), written)
     })
 }
 
@@ -166,8 +170,9 @@ pub extern "C" fn halfgates_label_file(
 ) -> i32
     requires written { Testable (as_mut_ptr written) }
     ensures answer { OfCircuit circuit.old.held result (λ c.
-        Answers result (IsReceivedAt c index labels.now buffer.old buffer.new written.new)
-        (HasReceivedFault c index labels.now (length buffer.old) written.new)) }
+        AnswersWritten result written.new
+        (IsReceivedAt c index labels.now buffer.old buffer.new)
+        (HasReceivedFault c index labels.now (length buffer.old))) }
     ensures back { circuit.new ≡ circuit.old }
     ensures kept { result ≢ pos 0 → buffer.new ≡ buffer.old }
     ensures unreported { result ≢ pos 0 → result ≢ pos 61 → written.new ≡ written.old }
@@ -176,6 +181,6 @@ pub extern "C" fn halfgates_label_file(
         return NULL_POINTER;
     }
     on_held!(circuit, Circuit(circuit) => {
-        code_of(circuit.label_file(alloc, index, labels, buffer, written))
+        report(circuit.label_file(alloc, InputBytes { index, bytes: labels }, buffer), written)
     })
 }

@@ -18,21 +18,6 @@ use crate::slot::Slot;
 use gc_kept::{Held, KeptCircuit, KeptFault, KeptGarbler, StartBytes};
 use std::alloc::Global;
 
-/// Begins to garble a circuit under a seed, and hands the garbler out.
-fn begin(
-    alloc: Global,
-    circuit: &KeptCircuit,
-    seed: &[u8; 32],
-    slot: &mut Slot,
-) -> Result<(), KeptFault>
-    ensures ok { OnOk result (HoldsBegunUnder circuit.now.netlist seed.now slot.new) }
-    ensures fault { IfErr result IsWantOfMemory }
-    ensures kept { OnErr result (slot.new ≡ slot.old) }
-{
-    let garbler = circuit.begin_garbling(alloc, seed)?;
-    slot.hand_out(alloc, Held::Garbler(garbler))
-}
-
 /// Begins to garble a circuit under a seed.
 #[unsafe(no_mangle)]
 pub extern "C" fn halfgates_garbler_begin(
@@ -51,8 +36,9 @@ pub extern "C" fn halfgates_garbler_begin(
     if is_null(seed) || is_null(garbler) {
         return NULL_POINTER;
     }
-    on_held!(circuit, Circuit(circuit) => {
-        code_of(begin(alloc, circuit, seed, garbler))
+    on_held!(circuit, Circuit(circuit) => match circuit.begin_garbling(alloc, seed) {
+        Ok(made) => code_of(garbler.hand_out(alloc, Held::Garbler(made))),
+        Err(fault) => code_of(Err(fault)),
     })
 }
 

@@ -17,21 +17,6 @@ use crate::slot::Slot;
 use gc_kept::{Held, KeptCircuit, KeptFault, StartBytes};
 use std::alloc::Global;
 
-/// Garbles a circuit, and hands the garbling out.
-fn garble(
-    alloc: Global,
-    circuit: &KeptCircuit,
-    seed: &[u8; 32],
-    slot: &mut Slot,
-) -> Result<(), KeptFault>
-    ensures ok { OnOk result (HoldsGarbling circuit.now seed.now slot.new) }
-    ensures fault { IfErr result IsWantOfMemory }
-    ensures kept { OnErr result (slot.new ≡ slot.old) }
-{
-    let garbling = circuit.garble(alloc, seed)?;
-    slot.hand_out(alloc, Held::Garbling(garbling))
-}
-
 /// Garbles a circuit under a seed.
 #[unsafe(no_mangle)]
 pub extern "C" fn halfgates_garble(
@@ -50,8 +35,9 @@ pub extern "C" fn halfgates_garble(
     if is_null(seed) || is_null(garbling) {
         return NULL_POINTER;
     }
-    on_held!(circuit, Circuit(circuit) => {
-        code_of(garble(alloc, circuit, seed, garbling))
+    on_held!(circuit, Circuit(circuit) => match circuit.garble(alloc, seed) {
+        Ok(made) => code_of(garbling.hand_out(alloc, Held::Garbling(made))),
+        Err(fault) => code_of(Err(fault)),
     })
 }
 

@@ -9,7 +9,7 @@ ghost use Rattle.halfgates_c.specs.Reading.{HasManyFault, HoldsGarbling, HoldsTh
 use crate::code::code_of;
 use crate::handle::{Handle, on_held};
 use crate::slot::Slot;
-use gc_kept::{Held, KeptCircuit, KeptFault, KeptGarbling, Pace};
+use gc_kept::{Held, KeptCircuit, KeptFault, KeptGarbling};
 use std::alloc::Global;
 use std::mem;
 
@@ -41,22 +41,28 @@ fn give(mut handles: Vec<Slot, Global>, slots: &mut [Slot])
     }
 }
 
+/// Seeds to garble under, one after another or two at a time.
+#[derive(Clone, Copy)]
+struct Seeds<'a> {
+    all: &'a [[u8; 32]],
+    side_by_side: bool,
+}
+
 /// Garbles a circuit under each seed, and hands the garblings out: all of them or none.
 fn garble_many(
     alloc: Global,
     circuit: &KeptCircuit,
-    seeds: &[[u8; 32]],
-    pace: Pace,
+    seeds: Seeds<'_>,
     slots: &mut [Slot],
 ) -> Result<(), KeptFault>
-    ensures ok { OnOk result (AllZip (HoldsGarbling circuit.now) seeds.now slots.new) }
-    ensures fault { IfErr result (HasManyFault (length seeds.now) (length slots.old)) }
+    ensures ok { OnOk result (AllZip (HoldsGarbling circuit.now) seeds.entry.all.now slots.new) }
+    ensures fault { IfErr result (HasManyFault (length seeds.entry.all.now) (length slots.old)) }
     ensures kept { OnErr result (slots.new ≡ slots.old) }
 {
-    if slots.len() != seeds.len() {
+    if slots.len() != seeds.all.len() {
         return Err(KeptFault::BadArgument);
     }
-    let garblings = circuit.garble_many(alloc, seeds, pace)?;
+    let garblings = circuit.garble_many(alloc, seeds.all, seeds.side_by_side)?;
     let handles = handles_of(alloc, garblings)?;
     give(handles, slots);
     Ok(())
@@ -77,12 +83,11 @@ pub extern "C" fn halfgates_garble_many(
     ensures back { circuit.new ≡ circuit.old }
     ensures kept { result ≢ pos 0 → garblings.new ≡ garblings.old }
 {
-    let pace = if side_by_side == 0 {
-        Pace::One
-    } else {
-        Pace::Two
+    let seeds = Seeds {
+        all: seeds,
+        side_by_side: side_by_side != 0,
     };
     on_held!(circuit, Circuit(circuit) => {
-        code_of(garble_many(alloc, circuit, seeds, pace, garblings))
+        code_of(garble_many(alloc, circuit, seeds, garblings))
     })
 }

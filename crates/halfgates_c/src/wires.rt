@@ -47,21 +47,29 @@ fn write_wires(garbling: &KeptGarbling, all: &[bool], from: u32, labels: &mut [W
     }
 }
 
+/// The bits of all input wires, and the first wire of which labels are wanted.
+#[derive(Clone, Copy)]
+struct Wanted<'a> {
+    bits: &'a [u8],
+    from: u32,
+}
+
 /// Writes the labels of wires of a garbling, for the bits of all input wires.
 fn write(
     alloc: Global,
     garbling: &KeptGarbling,
-    bits: &[u8],
-    from: u32,
+    wanted: Wanted<'_>,
     labels: &mut [WireLabels],
 ) -> Result<(), KeptFault>
-    ensures ok { OnOk result (AreLabelsOn garbling.now bits.now from labels.new) }
+    ensures ok { OnOk result
+        (AreLabelsOn garbling.now wanted.entry.bits.now wanted.entry.from labels.new) }
     ensures count { length labels.new ≡ length labels.old }
-    ensures fault { IfErr result
-        (HasWiresFault garbling.now bits.now from (length labels.old)) }
+    ensures fault { IfErr result (HasWiresFault garbling.now wanted.entry.bits.now
+        wanted.entry.from (length labels.old)) }
     ensures unwritten { OnErr result (labels.new ≡ labels.old) }
 {
     garbling.law_garbled();
+    let Wanted { bits, from } = wanted;
     let circuit = garbling.circuit();
     let wires = circuit.circuit().wires() as usize;
     if from as usize > wires || labels.len() > wires - from as usize {
@@ -89,6 +97,6 @@ pub extern "C" fn halfgates_labels(
     ensures back { garbling.new ≡ garbling.old }
 {
     on_held!(garbling, Garbling(garbling) => {
-        code_of(write(alloc, garbling, bits, from, labels))
+        code_of(write(alloc, garbling, Wanted { bits, from }, labels))
     })
 }

@@ -1,4 +1,4 @@
-use Rattle.std.proofs.Common.{◌≡◌, ◌∙◌, ◌+◌, ◌<◌, length, false, get_or, sym, ap, arith}
+use Rattle.std.proofs.Common.{◌≡◌, ◌∙◌, ◌+◌, ◌<◌, length, false, get_or, sym, ap, arith, length-append}
 use Rattle.std.specs.List.{slice_index}
 use Rattle.std.proofs.lemmas.List.{get_or_default}
 use Rattle.gc_half.specs.Evaluation.{encode}
@@ -18,5 +18,8 @@ loop-i-preserved c =
     let place : l.i ≡ 0 + l.i = omega arith in
     let label = c.encode.ensures ∙ ap (λ z. encode offset z bit) zero
     ∙ ap (λ i. encode offset (slice_index zeros i) bit) place in
-    rw (c.in_ok-push.ensures.items, l.invariant)
-    (encoded_next offset (slice_index zeros) 0 c.args.bits.now l.i c.encode.result below label)
+    record {
+      labels = rw (c.in_ok-push.ensures.items, l.invariant.labels)
+          (encoded_next offset (slice_index zeros) 0 c.args.bits.now l.i c.encode.result below label);
+      count = simp (c.in_ok-push.ensures.items, length-append) (omega arith);
+    }

@@ -1,8 +1,10 @@
-use Rattle.std.proofs.Common.{◌≡◌, take}
+use Rattle.std.proofs.Common.{◌≡◌, length, take}
 use Rattle.std.specs.List.{slice_index}
 use Rattle.gc_file.specs.LabelFile.{encoded_with}
 use Rattle.gc_kept.proofs.label_file.encoded.Given as goal
 
 abbrev pub invariant-loop-i : goal.invariant-loop-i
-invariant-loop-i l =
-    l.labels.items ≡ encoded_with l.offset (slice_index l.zero_labels) 0 (take l.i l.bits)
+invariant-loop-i l = record {
+  labels : l.labels.items ≡ encoded_with l.offset (slice_index l.zero_labels) 0 (take l.i l.bits);
+  count : length l.labels.items ≡ l.i;
+}

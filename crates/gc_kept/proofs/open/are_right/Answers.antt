@@ -1,10 +1,11 @@
-use Rattle.std.proofs.Common.{◌≡◌, ◌+◌, ◌<◌, ◌&&◌, Bool, true, false, [], ◌∷◌, ◌++◌, length, inl, inr, refl, sym, ap, ◌∙◌, arith}
+use Rattle.std.proofs.Common.{◌≡◌, ◌+◌, ◌<◌, ◌&&◌, Bool, true, false, [], ◌∷◌, ◌++◌, length, inl, inr, refl, sym, ap, subst, ◌∙◌, arith}
 use Rattle.std.specs.List.{slice_index}
 use Rattle.std.proofs.lemmas.Bool.{cases_Bool}
 use Rattle.std.proofs.lemmas.List.{get_or_default, take_all}
 use Rattle.gc_half.specs.Evaluation.{encode}
 use Rattle.gc_audit.proofs.LabelsLemmas.{encoded-more}
-use Rattle.gc_kept.proofs.OpenLemmas.{length-are}
+use Rattle.gc_kept.specs.Labels.{AreLabels}
+use Rattle.gc_kept.proofs.OpenLemmas.{labels_spelled, length-are}
 use Rattle.gc_kept.proofs.open.are_right.Goals as goal
 
 and_true : (a b : Bool) → (a && b) ≡ true → (a ≡ true) × (b ≡ true)
@@ -47,10 +48,17 @@ loop-i-preserved c =
     }
 
 pub returns-clause-right : goal.returns-clause-right
-returns-clause-right c all active are =
+returns-clause-right c all =
     let l = c.loop-i in
-    let found = l.invariant.right all active are in (
-      found.0,
-      sym (take_all l.i active
-          (omega (arith, length-are c.args.labels.now active are, c.requires))) ∙ found.1,
-    )
+    let bytes = c.args.labels.now in
+    let active = labels_spelled bytes (length c.args.zero_labels.now) c.requires
+    (λ i. omega (arith, c.type_inv.labels i)) in
+    let found = l.invariant.right all active.0 active.1 in
+    let whole = take_all l.i active.0 (omega (arith, length-are bytes active.0 active.1, c.requires)) in
+    (found.0, subst (AreLabels bytes) (sym whole ∙ found.1) active.1)
+
+pub returns-clause-wrong : goal.returns-clause-wrong
+returns-clause-wrong c some =
+    let active = labels_spelled c.args.labels.now (length c.args.zero_labels.now) c.requires
+    (λ i. omega (arith, c.type_inv.labels i)) in
+    c.loop-i.invariant.wrong some active.0 active.1

@@ -1,12 +1,14 @@
-use Rattle.std.proofs.Common.{arith}
+use Rattle.std.proofs.Common.{arith, inr}
 use Rattle.std.proofs.lemmas.Result.{err_from_is_err_and}
-use Rattle.halfgates_c.proofs.ListLemmas.{garblings_until}
+use Rattle.gc_kept.specs.declared.held.Held.TheVariants.{Garbling}
+use Rattle.halfgates_c.specs.Holding.{OfGarbling}
+use Rattle.halfgates_c.proofs.ListLemmas.{garbling_is, until}
 use Rattle.halfgates_c.proofs.garblings.garblings_of.Goals as goal
 
 pub returns-in_err-garbling-clause-code : goal.returns-in_err-garbling-clause-code
 returns-in_err-garbling-clause-code c =
     let l = c.loop-borrow in
     let p = err_from_is_err_and c.from_residual.result c.from_residual.ensures.1 in
-    rw (p.1, p.2) (garblings_until c.args.borrows.now l.garblings.items (λ it. it.value) (λ g. g.now)
-    l.borrow-index c.borrow-item.result c.in_err-garbling.field-0.0 (omega arith) c.borrow-item.is
-    l.invariant c.in_err-garbling.ensures)
+    rw (p.1, p.2) (inr (until OfGarbling Garbling garbling_is c.args.borrows.now l.garblings.items
+    (λ it. it.value) (λ g. g.now) l.borrow-index c.borrow-item.result c.in_err-garbling.field-0.0
+    (omega arith) c.borrow-item.is l.invariant c.in_err-garbling.ensures))

@@ -15,6 +15,6 @@ give-requires c =
 pub returns-clause-ok : goal.returns-clause-ok
 returns-clause-ok c =
     rw c.give.ensures
-    (all_under c.args.circuit.now c.args.seeds.now c.in_ok-garblings.garblings.items
+    (all_under c.args.circuit.now c.args.seeds.all.now c.in_ok-garblings.garblings.items
     c.in_ok-handles.handles.items
     c.in_ok-garblings.ensures.ok c.in_ok-handles.ensures.ok)

@@ -39,4 +39,4 @@ pub returns-in_err-again-clause-fault : goal.returns-in_err-again-clause-fault
 returns-in_err-again-clause-fault c =
     let p = err_from_is_err_and c.from_residual-in_err-again.result
     c.from_residual-in_err-again.ensures.1 in
-    rw (p.1, p.2) (inr (c.in_ok-digest.ensures.ok.taken, want))
+    rw (p.1, p.2, c.in_err-again.ensures.fault) (inr (c.in_ok-digest.ensures.ok.taken, want))

@@ -1,6 +1,5 @@
 use Rattle.std.proofs.Common.{◌≡◌, ◌∙◌, length, take, ap, arith}
-use Rattle.std.specs.List.{slice_index, sum}
-use Rattle.std.proofs.lemmas.List.FromFn.{length-map-range_with_len}
+use Rattle.std.specs.List.{sum}
 use Rattle.std.proofs.lemmas.Result.{err_from_is_err_and}
 use Rattle.gc_label.specs.Seed.{offset_of, input_label_of}
 use Rattle.gc_file.proofs.DealLemmas.{first_wire-room, length-encoded_with}
@@ -13,8 +12,8 @@ use Rattle.gc_kept.proofs.circuit.KeptCircuit.deal.Goals as goal
 pub returns-in_err-bits-clause-fault : goal.returns-in_err-bits-clause-fault
 returns-in_err-bits-clause-fault c =
     let p = err_from_is_err_and c.from_residual.result c.from_residual.ensures.1 in
-    rw (p.1, p.2) (c.in_err-bits.ensures.fault (offset_of c.args.seed.now)
-    (input_label_of c.args.seed.now))
+    rw (p.1, p.2) (c.in_err-bits.ensures.fault (offset_of c.args.given.seed.now)
+    (input_label_of c.args.given.seed.now))
 
 pub zero_labels-requires : goal.zero_labels-requires
 zero_labels-requires c =
@@ -23,8 +22,8 @@ zero_labels-requires c =
       arith,
       c.first_wire-first.ensures,
       c.len.ensures,
-      ap (λ (n : Netlist). sum (take c.args.index n.input_widths)) c.circuit.ensures.same,
-      first_wire-room c.args.self.now.netlist c.circuit.ensures.lawful c.args.index (length bits)
+      ap (λ (n : Netlist). sum (take c.args.given.input.index n.input_widths)) c.circuit.ensures.same,
+      first_wire-room c.args.self.now.netlist c.circuit.ensures.lawful c.args.given.input.index (length bits)
           c.in_ok-bits.ensures.width,
     )
 
@@ -42,52 +41,18 @@ returns-in_err-labels-clause-fault c =
     rw (p.1, p.2) (of_file c.in_ok-bits.bits.items Memory c.in_ok-bits.ensures.bytes
     c.in_ok-bits.ensures.width tt)
 
-pub encoded-requires : goal.encoded-requires
-encoded-requires c =
-    let zero_label = input_label_of c.from_bytes-seed.result in
-    omega (
-      arith,
-      ap length c.deref.ensures.value,
-      ap length c.in_ok-zero_labels.ensures,
-      length-map-range_with_len zero_label c.first_wire-first.result c.len.result,
-      c.len.ensures,
-      ap length c.deref-2.ensures.value,
-    )
-
-pub write_file-requires-clause-room : goal.write_file-requires-clause-room
-write_file-requires-clause-room c =
-    omega (
-      arith,
-      c.in_ok-bits.ensures.room,
-      ap length c.deref-3.ensures.value,
-      ap length c.in_ok-labels.ensures,
-      length-encoded_with c.offset.result (slice_index c.deref.result.now) 0 c.deref-2.result.now,
-      ap length c.deref-2.ensures.value,
-    )
-
-pub write_file-requires-clause-few : goal.write_file-requires-clause-few
-write_file-requires-clause-few c =
-    omega (
-      arith,
-      c.in_ok-bits.ensures.few,
-      ap length c.deref-3.ensures.value,
-      ap length c.in_ok-labels.ensures,
-      length-encoded_with c.offset.result (slice_index c.deref.result.now) 0 c.deref-2.result.now,
-      ap length c.deref-2.ensures.value,
-    )
-
 pub returns-clause-ok : goal.returns-clause-ok
 returns-clause-ok c =
     let circuit = c.args.self.now.netlist in
-    let index = c.args.index in
+    let index = c.args.given.input.index in
     let bits = c.in_ok-bits.bits.items in
-    let seed = c.args.seed.now in
+    let seed = c.args.given.seed.now in
     let made = c.from_bytes-seed.result in
     let first = c.first_wire-first.result in
     let long : c.len.result ≡ length bits = omega (arith, c.len.ensures) in
-    let zeros = c.deref.ensures.value ∙ (rw long at c.in_ok-zero_labels.ensures) in
+    let zeros = c.deref.ensures.value ∙ (rw long at c.in_ok-zero_labels.ensures.labels) in
     let labels = c.deref-3.ensures.value
-    ∙ (rw c.deref-2.ensures.value at c.in_ok-labels.ensures)
+    ∙ (rw c.deref-2.ensures.value at c.in_ok-labels.ensures.labels)
     ∙ dealt_under c.offset.result made c.deref.result.now first bits zeros in
     let from = c.first_wire-first.ensures
     ∙ ap (λ (n : Netlist). sum (take index n.input_widths)) c.circuit.ensures.same in

@@ -24,17 +24,18 @@ returns-in_err-look_for_room-clause-fault c = λ offset zero_label.
     let bits = c.in_ok-bits.bits.items in
     let p = err_from_is_err_and c.from_residual-in_err-look_for_room.result
     c.from_residual-in_err-look_for_room.ensures.1 in
-    let file = label_file (label_parts_with a.self.now.netlist offset zero_label a.index bits) in
+    let index = a.input.index in
+    let file = label_file (label_parts_with a.self.now.netlist offset zero_label index bits) in
     let size : 16 + 16 * c.in_ok-width.width ≡ length file =
     omega (
       arith,
-      length-dealt a.self.now.netlist offset zero_label a.index bits,
+      length-dealt a.self.now.netlist offset zero_label index bits,
       c.in_ok-bits.ensures.count,
     ) in
     rw (p.1, p.2) (of_file bits c.in_err-look_for_room.field-0.0 c.in_ok-bits.ensures.bytes
     (rw c.in_ok-bits.ensures.count c.in_ok-width.ensures.ok)
-    (lacks_room file _ (length a.buffer.now) _ c.in_err-look_for_room.field-0.0 size
-    c.in_err-look_for_room.ensures.fault c.in_err-look_for_room.ensures.written))
+    (lacks_room file _ (length a.buffer.now) c.in_err-look_for_room.field-0.0 size
+    c.in_err-look_for_room.ensures.fault))
 
 pub returns-clause-width : goal.returns-clause-width
 returns-clause-width c = rw c.in_ok-bits.ensures.count c.in_ok-width.ensures.ok

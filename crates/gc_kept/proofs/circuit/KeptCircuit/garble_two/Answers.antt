@@ -23,11 +23,11 @@ from_its_own r s given c d g offset circuit is =
 pub invariant_of-one-2 : goal.invariant_of-one-2
 invariant_of-one-2 c =
     from_its_own _ _ _ _ _ _ c.offset.ensures
-    (ap (λ (it : CircuitWith). it.netlist) c.in_ok-again.ensures ∙ sym c.circuit.ensures.same)
+    (ap (λ (it : CircuitWith). it.netlist) c.in_ok-again.ensures.ok ∙ sym c.circuit.ensures.same)
     c.in-Ok.ensures.one
 
 pub invariant_of-other-2 : goal.invariant_of-other-2
 invariant_of-other-2 c =
     from_its_own _ _ _ _ _ _ c.offset-2.ensures
-    (ap (λ (it : CircuitWith). it.netlist) c.in_ok-again-2.ensures ∙ sym c.circuit.ensures.same)
+    (ap (λ (it : CircuitWith). it.netlist) c.in_ok-again-2.ensures.ok ∙ sym c.circuit.ensures.same)
     c.in-Ok.ensures.other

@@ -8,7 +8,7 @@ write_file-requires-clause-room c =
       arith,
       c.in_ok-look_for_room.ensures.ok,
       ap length c.deref.ensures.value,
-      length-labels c.in-Ok.labels.items c.args.labels.now c.in-Ok.ensures.bytes,
+      length-labels c.in-Ok.labels.items c.args.input.bytes.now c.in-Ok.ensures.bytes,
     )
 
 pub write_file-requires-clause-few : goal.write_file-requires-clause-few
@@ -17,13 +17,13 @@ write_file-requires-clause-few c =
       arith,
       c.in_ok-width.ensures.few,
       ap length c.deref.ensures.value,
-      length-labels c.in-Ok.labels.items c.args.labels.now c.in-Ok.ensures.bytes,
+      length-labels c.in-Ok.labels.items c.args.input.bytes.now c.in-Ok.ensures.bytes,
     )
 
 pub returns-clause-ok : goal.returns-clause-ok
 returns-clause-ok c =
     let labels = c.in-Ok.labels.items in
-    let many = length-labels labels c.args.labels.now c.in-Ok.ensures.bytes in
+    let many = length-labels labels c.args.input.bytes.now c.in-Ok.ensures.bytes in
     let count : length labels ≡ c.in_ok-width.width = omega (arith, many) in
     record {
       labels = labels;

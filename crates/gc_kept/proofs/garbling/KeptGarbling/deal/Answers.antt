@@ -11,7 +11,7 @@ use Rattle.gc_kept.proofs.garbling.KeptGarbling.deal.Goals as goal
 pub returns-in_err-bits-clause-fault : goal.returns-in_err-bits-clause-fault
 returns-in_err-bits-clause-fault c =
     let p = err_from_is_err_and c.from_residual.result c.from_residual.ensures.1 in
-    rw (p.1, p.2, ← c.circuit-circuit.ensures.netlist) (c.in_err-bits.ensures.fault c.args.self.now.offset
+    rw (p.1, p.2, ← c.circuit.ensures.netlist) (c.in_err-bits.ensures.fault c.args.self.now.offset
     (slice_index c.args.self.now.garbling.zero_labels))
 
 pub returns-in_err-labels-clause-fault : goal.returns-in_err-labels-clause-fault
@@ -19,50 +19,17 @@ returns-in_err-labels-clause-fault c =
     let p = err_from_is_err_and c.from_residual-in_err-labels.result
     c.from_residual-in_err-labels.ensures.1 in
     rw (p.1, p.2) (of_file c.in_ok-bits.bits.items Memory c.in_ok-bits.ensures.bytes
-    (rw c.circuit-circuit.ensures.netlist at c.in_ok-bits.ensures.width) tt)
+    (rw c.circuit.ensures.netlist at c.in_ok-bits.ensures.width) tt)
 
 pub input_zero_labels-zero_labels-requires : goal.input_zero_labels-zero_labels-requires
 input_zero_labels-zero_labels-requires c =
     let long : c.len.result ≡ length c.in_ok-bits.bits.items = omega (arith, c.len.ensures) in
-    rw long (rw c.circuit-circuit.ensures.netlist at c.in_ok-bits.ensures.width)
-
-pub encoded-requires : goal.encoded-requires
-encoded-requires c =
-    omega (
-      arith,
-      c.input_zero_labels-zero_labels.ensures.count,
-      c.len.ensures,
-      ap length c.deref.ensures.value,
-    )
-
-pub write_file-requires-clause-room : goal.write_file-requires-clause-room
-write_file-requires-clause-room c =
-    omega (
-      arith,
-      c.in_ok-bits.ensures.room,
-      ap length c.deref-2.ensures.value,
-      ap length c.in_ok-labels.ensures,
-      length-encoded_with c.self.inside.offset
-          (slice_index c.input_zero_labels-zero_labels.result.now) 0 c.deref.result.now,
-      ap length c.deref.ensures.value,
-    )
-
-pub write_file-requires-clause-few : goal.write_file-requires-clause-few
-write_file-requires-clause-few c =
-    omega (
-      arith,
-      c.in_ok-bits.ensures.few,
-      ap length c.deref-2.ensures.value,
-      ap length c.in_ok-labels.ensures,
-      length-encoded_with c.self.inside.offset
-          (slice_index c.input_zero_labels-zero_labels.result.now) 0 c.deref.result.now,
-      ap length c.deref.ensures.value,
-    )
+    rw long (rw c.circuit.ensures.netlist at c.in_ok-bits.ensures.width)
 
 pub returns-clause-ok : goal.returns-clause-ok
 returns-clause-ok c =
     let g = c.args.self.now in
-    let index = c.args.index in
+    let index = c.args.input.index in
     let bits = c.in_ok-bits.bits.items in
     let all = g.garbling.zero_labels in
     let zeros = c.input_zero_labels-zero_labels in
@@ -70,13 +37,13 @@ returns-clause-ok c =
     let long : c.len.result ≡ length bits = omega (arith, c.len.ensures) in
     let offset = ap (λ (it : GarblingWith). it.offset) c.self.view_is in
     let labels = c.deref-2.ensures.value
-    ∙ (rw c.deref.ensures.value at c.in_ok-labels.ensures)
+    ∙ (rw c.deref.ensures.value at c.in_ok-labels.ensures.labels)
     ∙ dealt_from c.self.inside.offset all zeros.result.now first bits
     (rw long at zeros.ensures.labels) in
     record {
       bits = bits;
       bytes_are = c.in_ok-bits.ensures.bytes;
-      width = (rw c.circuit-circuit.ensures.netlist at c.in_ok-bits.ensures.width);
+      width = (rw c.circuit.ensures.netlist at c.in_ok-bits.ensures.width);
       file = (rw (labels, offset) at c.write_file.ensures.file);
       count = omega (
         arith,

@@ -1,16 +1,17 @@
-use Rattle.gc_kept.proofs.OutcomeLemmas.{OnOk-both, IfErr-map}
+use Rattle.std.proofs.Common.{ap}
+use Rattle.gc_kept.specs.Garbling.{GarblingWith}
+use Rattle.gc_kept.proofs.OutcomeLemmas.{OnOk-map, IfErr-map}
 use Rattle.gc_kept.proofs.garbling.KeptGarbling.input_labels.Goals as goal
 
 pub returns-clause-ok : goal.returns-clause-ok
 returns-clause-ok c =
-    OnOk-both c.write_both.result (λ zero one. record {
+    OnOk-map c.write_both.result (λ both. record {
       width = c.in_ok-width.width;
       at = (rw c.circuit.ensures.netlist at c.in_ok-width.ensures.ok);
-      zero = zero;
-      one = one;
+      both = both;
     })
-    (rw c.input_zero_labels.ensures.labels at c.write_both.ensures.zero)
-    (rw c.input_zero_labels.ensures.labels at c.write_both.ensures.one)
+    (rw (c.input_zero_labels.ensures.labels, ap (λ (g : GarblingWith). g.offset) c.self.view_is)
+    at c.write_both.ensures.ok)
 
 pub returns-clause-fault : goal.returns-clause-fault
 returns-clause-fault c =

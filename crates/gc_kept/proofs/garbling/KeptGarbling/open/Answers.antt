@@ -1,12 +1,11 @@
-use Rattle.std.proofs.Common.{◌≡◌, ℕ, ◌*◌, Some, length, refl, sym, ap, subst, ◌∙◌, arith}
+use Rattle.std.proofs.Common.{◌≡◌, ◌*◌, Some, length, refl, sym, ap, subst, ◌∙◌, arith}
 use Rattle.std.specs.List.{slice_index}
 use Rattle.std.proofs.lemmas.List.{length-map}
-use Rattle.gc_netlist.specs.Circuit.{Netlist, IsLawful}
 use Rattle.gc_file.proofs.DealLemmas.{length-encoded_with}
 use Rattle.gc_kept.specs.Garbling.{GarblingWith}
 use Rattle.gc_kept.specs.Labels.{AreLabels, first_output_of}
 use Rattle.gc_kept.proofs.LabelFileLemmas.{dealt_from}
-use Rattle.gc_kept.proofs.OpenLemmas.{labels_spelled, length-are, wrong_among}
+use Rattle.gc_kept.proofs.OpenLemmas.{length-are, wrong_among}
 use Rattle.gc_kept.proofs.garbling.KeptGarbling.open.Goals as goal
 
 pub returns-then-not-are_right-clause-fault : goal.returns-then-not-are_right-clause-fault
@@ -15,18 +14,16 @@ returns-then-not-are_right-clause-fault c =
     let bytes = c.args.labels.now in
     let width = c.in_ok-width.width in
     let zeros = c.output_zero_labels-zero_labels in
-    let at = rw c.circuit.ensures.netlist at c.in_ok-width.ensures.ok in
     let long : length bytes ≡ 16 * width =
     c.if-labels-zero_labels.false ∙ ap (λ n. 16 * n) zeros.ensures.count in
-    let active = labels_spelled bytes width long (λ i. omega (arith, c.type_inv.labels i)) in
-    let offset = ap (λ (g : GarblingWith). g.offset) c.self.view_is in
-    let wrong = rw offset at (c.are_right.ensures.wrong c.if-not-are_right.true active.0 active.1) in (
+    let offset = ap (λ (g : GarblingWith). g.offset) c.self.view_is in (
       width,
-      at,
+      (rw c.circuit.ensures.netlist at c.in_ok-width.ensures.ok),
       long,
       c.in_ok-has_room.ensures.ok,
       (wrong_among g.offset g.garbling.zero_labels zeros.result.now
-          (first_output_of g.circuit c.args.index) width bytes zeros.ensures.labels long wrong),
+          (first_output_of g.circuit c.args.index) width bytes zeros.ensures.labels long
+          (rw offset at (c.are_right.ensures.wrong c.if-not-are_right.true))),
     )
 
 pub returns-clause-ok : goal.returns-clause-ok
@@ -35,27 +32,22 @@ returns-clause-ok c =
     let bytes = c.args.labels.now in
     let width = c.in_ok-width.width in
     let zeros = c.output_zero_labels-zero_labels in
-    let at = rw c.circuit.ensures.netlist at c.in_ok-width.ensures.ok in
-    let long : length bytes ≡ 16 * width =
-    c.if-labels-zero_labels.false ∙ ap (λ n. 16 * n) zeros.ensures.count in
-    let active = labels_spelled bytes width long (λ i. omega (arith, c.type_inv.labels i)) in
     let offset = ap (λ (g : GarblingWith). g.offset) c.self.view_is in
-    let found = rw offset at (c.are_right.ensures.right c.if-not-are_right.false active.0 active.1) in
+    let found = rw offset at (c.are_right.ensures.right c.if-not-are_right.false) in
     let bits = found.0 in
     let count : length bits ≡ width = omega (
       arith,
-      length-are bytes active.0 active.1,
-      long,
-      ap length found.1,
+      length-are bytes _ found.1,
+      c.if-labels-zero_labels.false,
+      zeros.ensures.count,
       length-encoded_with g.offset (slice_index zeros.result.now) 0 bits,
     ) in
-    let are = subst (AreLabels bytes) found.1 active.1 in
-    let put = c.put_bits.ensures g.offset bits c.law_coloured.ensures are in
+    let put = c.put_bits.ensures g.offset bits c.law_coloured.ensures found.1 in
     let moved = dealt_from g.offset g.garbling.zero_labels zeros.result.now
     (first_output_of g.circuit c.args.index) bits (rw count zeros.ensures.labels) in
     record {
       bits = bits;
-      width = at ∙ ap Some (sym count);
-      labels_are = (subst (AreLabels bytes) moved are);
+      width = (rw c.circuit.ensures.netlist at c.in_ok-width.ensures.ok) ∙ ap Some (sym count);
+      labels_are = (subst (AreLabels bytes) moved found.1);
       buffer = rw (put, length-map, count) refl;
     }

@@ -1,4 +1,4 @@
-use Rattle.std.proofs.Common.{IfSome, Ok, subst, sym, ap, length, ◌∙◌}
+use Rattle.std.proofs.Common.{IfSome, Ok, subst, ap, length, arith}
 use Rattle.gc_job.specs.Evaluate.{IsEvaluated}
 use Rattle.gc_job.proofs.OutputLemmas.{length-evaluated}
 use Rattle.gc_kept.proofs.job.KeptJob.outcome.Goals as goal
@@ -9,6 +9,9 @@ write_bits-requires c =
     let whole = rw c.borrowed.ensures at c.law_whole.ensures in
     let evaluated = subst (λ o. IfSome o (λ bits. IsEvaluated job (Ok bits.items))) c.in-Some.is
     c.requires.known in
-    c.requires.room
-    ∙ sym (ap length c.deref.ensures.value
-    ∙ length-evaluated job whole c.in-Some.found.items evaluated)
+    omega (
+      arith,
+      c.requires.room,
+      ap length c.deref.ensures.value,
+      length-evaluated job whole c.in-Some.found.items evaluated,
+    )

@@ -1,0 +1,26 @@
+use Rattle.std.proofs.Common.{◌≡◌, ◌∙◌, ◌+◌, ◌-◌, ◌*◌, ◌<◌, length, drop, [], refl, arith, length-drop, length-take}
+use Rattle.std.proofs.lemmas.List.{get_or-take, get_or-drop}
+use Rattle.gc_kept.specs.Garbling.{IsGarblingUnder}
+use Rattle.gc_kept.proofs.ManyLemmas.{all_more, two_more}
+use Rattle.gc_kept.proofs.circuit.KeptCircuit.garble_many.Goals as goal
+
+pub loop-i-preserved : goal.loop-i-preserved
+loop-i-preserved c =
+    rw (c.in_ok-push-2.ensures.items, c.in_ok-push.ensures.items)
+    (two_more (IsGarblingUnder c.args.self.now) c.args.seeds.now c.loop-i.made.items c.loop-i.i []
+    _ _ c.in_ok-one.one c.in_ok-one.other (omega (arith, c.loop-i-test.true)) refl refl
+    c.loop-i.invariant c.in_ok-one.ensures.one c.in_ok-one.ensures.other)
+
+pub loop-seed-preserved : goal.loop-seed-preserved
+loop-seed-preserved c =
+    let seeds = c.args.seeds.now in
+    let first = 2 * c.if-side_by_side.pairs in
+    let i = c.loop-seed.seed-index in
+    let rest = length seeds - first in
+    let below : i < rest = omega (arith, length-drop first seeds, length-take rest (drop first seeds)) in
+    let place : first + (i + 1) ≡ first + i + 1 = omega arith in
+    rw (c.in_ok-push-3.ensures.items, place)
+    (all_more (IsGarblingUnder c.args.self.now) seeds c.loop-seed.made.items (first + i) [] _
+    c.in_ok-garble.field-0 (omega (arith, below))
+    (get_or-take rest (drop first seeds) i [] below ∙ get_or-drop first seeds i [])
+    c.loop-seed.invariant c.in_ok-garble.ensures.ok)

@@ -1,7 +1,0 @@
-use Rattle.std.proofs.Common.{◌*◌, take}
-use Rattle.std.specs.List.{AllZip}
-use Rattle.gc_kept.specs.Garbling.{IsGarblingUnder}
-use Rattle.gc_kept.proofs.circuit.KeptCircuit.garble_pairs.Given as goal
-
-abbrev pub invariant-loop-i : goal.invariant-loop-i
-invariant-loop-i l = AllZip (IsGarblingUnder l.self) (take (2 * l.i) l.seeds) l.made.items
