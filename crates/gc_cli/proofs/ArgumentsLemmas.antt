@@ -101,17 +101,6 @@ next-refused files Failed words name left CannotRead begin refused =
     (name, (left, (begin, refused)))
 next-refused files Failed words name left Memory begin refused = tt
 
--- That the option has no file is no failure of one.
-pub no-file : (files : FileBytes) (Failed : List ℕ → Type 0) (words : List (List ℕ))
-    → IsRefusedLine files Failed words NoFile → IsRefusedLine files (λ name. ⊥) words NoFile
-no-file files Failed [] refused = refused
-no-file files Failed (program ∷ words) refused = record {
-  given = refused.given;
-  left = refused.left;
-  front = refused.front;
-  next = refused.next;
-}
-
 -- Plain words stand for themselves.
 pub plain-stand : (files : FileBytes) (words : List (List ℕ)) → ArePlain words
     → WordsStandFor files words words

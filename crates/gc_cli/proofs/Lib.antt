@@ -1,3 +1,2 @@
 pub mod ArgumentsLemmas
 pub mod MistakeLemmas
-pub mod CarryOutLemmas

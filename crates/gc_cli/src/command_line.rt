@@ -1,8 +1,7 @@
 //! Reading the arguments.
 
-ghost use Rattle.std.specs.Prelude.{◌≡◌, map, string_bytes, IfErr, IfOk, OnOk};
-ghost use Rattle.gc_order.specs.Order.{explains_in, text_of};
-ghost use Rattle.gc_cli.specs.CommandLine.{IsOrder, IsRefusal};
+ghost use Rattle.std.specs.Prelude.{◌≡◌, map, string_bytes, OnOk};
+ghost use Rattle.gc_cli.specs.CommandLine.{IsAsked};
 
 use clap::Error;
 use clap::error::ErrorKind;
@@ -47,11 +46,7 @@ impl Heap {
     /// For arguments that clap refuses, or that ask for help or the version, it returns clap's error, which has the
     /// text to show, and so is a line for which there is no memory.
     pub fn order(&mut self, words: &[String]) -> Result<Asked, Error>
-        ensures ok { IfOk result
-            (λ asked. IsOrder (map string_bytes words.now) (text_of asked.order)) }
-        ensures explains { IfOk result
-            (λ asked. asked.explains ≡ explains_in (map string_bytes words.now)) }
-        ensures err { IfErr result (IsRefusal (map string_bytes words.now) self.old self.new) }
+        ensures asked { IsAsked (map string_bytes words.now) self.old self.new result }
         ensures same { OnOk result (self.new ≡ self.old) }
     {
         match asked_of(self.alloc, words) {

@@ -1,22 +1,22 @@
 //! A run of the program, from its arguments to its status.
 
-ghost use Rattle.std.specs.Prelude.{◌≡◌, ◌+◌, ◌<◌, ◌≤◌, ◌⊎◌, ◌||◌, ℕ, List, map, string_bytes, IfErr, IfOk, OnOk};
+ghost use Rattle.std.specs.Prelude.{◌≡◌, ◌+◌, ◌<◌, ◌≤◌, ◌⊎◌, ◌||◌, ℕ, List, IfErr, IfOk, OnOk};
 ghost use Rattle.std.specs.Io.KnownBytes.{Appends};
 ghost use Rattle.std.specs.IoError.{error_kind};
 ghost use Rattle.gc_file.specs.Counted.{CountsFailure};
 ghost use Rattle.gc_order.specs.Order.{explains_in, text_of};
 ghost use Rattle.gc_disk.specs.Files.{HasFailed};
 ghost use Rattle.gc_cli.specs.CarryOut.{Writes};
-ghost use Rattle.gc_cli.specs.CommandLine.{IsMistaken};
+ghost use Rattle.gc_cli.specs.CommandLine.{IsAsked, IsMistaken};
 ghost use Rattle.gc_cli.specs.Output.{Printed};
 ghost use Rattle.gc_cli.specs.Serve.{AskToWrite, EndsByFault, FailsToAnswer, FindsDishonest, IsDone};
 ghost use Rattle.gc_cli.specs.Serve.{AddsExplanation, PrintsAnswer, PrintsFault, PrintsLine};
 ghost use Rattle.gc_cli.specs.Serve.{PrintsRefusal, fault_line, reason_of, refusal_line};
 
 use crate::answer::Answer;
-use crate::command_line::Heap;
 use crate::orders::carry_out;
 use crate::output::{Console, Output};
+use clap::Error;
 use gc_command::{Context, Fault, Progress};
 use gc_disk::{Files, Reread};
 use gc_explain::Ended;
@@ -38,57 +38,52 @@ pub const USAGE: u8 = 2;
 /// The status of an audit that has found its files dishonest.
 pub const DISHONEST: u8 = 3;
 
-/// Does what arguments say, of which the first is the program's name, and returns the status of the run, as
-/// [`serve`](crate::serve) does for arguments without `--args-from`.
-pub(crate) fn serve_arguments<R: Threads + Wait + Sync, F: Reread, O: Write, E: Write, P: Progress>(
-    rt: &R,
-    heap: &mut Heap,
-    words: &[String],
+/// Does what arguments ask for, and returns the status of the run, as [`serve`](crate::serve) does.
+pub(crate) fn serve_asked<R: Threads + Wait + Sync, F: Reread, O: Write, E: Write, P: Progress>(
+    context: &Context<'_, R, Global, P>,
+    asked: Result<Asked, Error>,
     files: &mut F,
     console: &mut Console<O, E>,
-    progress: &P,
 ) -> u8
     ensures status { result ≤ DISHONEST }
 
-    ensures done { result ≡ DONE → IsDone (F.bytes files.old) (F.bytes files.new)
-        (map string_bytes words.now) console.old.out console.new.out }
+    ensures done { result ≡ DONE → (words : List (List ℕ)) (old new : ℕ)
+        → IsAsked words old new asked → IsDone (F.bytes files.old) (F.bytes files.new) words
+        console.old.out console.new.out }
     ensures no_errors { result ≡ DONE → console.new.err ≡ console.old.err }
-    ensures dishonest { result ≡ DISHONEST
-        → FindsDishonest (F.bytes files.old) (F.bytes files.new)
-        (map string_bytes words.now) console.old.out console.new.out }
+    ensures dishonest { result ≡ DISHONEST → (words : List (List ℕ)) (old new : ℕ)
+        → IsAsked words old new asked → FindsDishonest (F.bytes files.old) (F.bytes files.new) words
+        console.old.out console.new.out }
     ensures no_errors_of_audit { result ≡ DISHONEST → console.new.err ≡ console.old.err }
 
-    ensures fault { result ≡ FAULT → EndsByFault (F.bytes files.old) (F.bytes files.new)
-        (HasFailed (F.failures files.old) (F.failures files.new))
-        (map string_bytes words.now) console.old.explains
+    ensures fault { result ≡ FAULT → (words : List (List ℕ)) (old new : ℕ)
+        → IsAsked words old new asked → EndsByFault (F.bytes files.old) (F.bytes files.new)
+        (HasFailed (F.failures files.old) (F.failures files.new)) words console.old.explains
         console.old.out console.new.out console.old.err console.new.err }
 
     // Arguments that neither are an order nor ask for a text: only they, where there was memory to read them, and all
     // of them.
-    ensures usage { result ≡ USAGE
-        → IsMistaken (map string_bytes words.now) ⊎ (heap.old < heap.new) }
-    ensures mistaken { IsMistaken (map string_bytes words.now) → result ≡ USAGE }
+    ensures usage { result ≡ USAGE → (words : List (List ℕ)) (old new : ℕ)
+        → IsAsked words old new asked → IsMistaken words ⊎ (old < new) }
+    ensures mistaken { (words : List (List ℕ)) (old new : ℕ) → IsAsked words old new asked
+        → IsMistaken words → result ≡ USAGE }
     ensures no_output { result ≡ USAGE → console.new.out ≡ console.old.out }
 
     // A file changes only where the arguments are an order that writes it, and by `fault` is as it was at a fault.
-    ensures others { (name : List ℕ) → ¬ AskToWrite (map string_bytes words.now) name
+    ensures others { (words : List (List ℕ)) (old new : ℕ) → IsAsked words old new asked
+        → (name : List ℕ) → ¬ AskToWrite words name
         → F.bytes files.new name ≡ F.bytes files.old name }
     ensures unwritten { result ≡ USAGE
         → (name : List ℕ) → F.bytes files.new name ≡ F.bytes files.old name }
 {
-    let (alloc, before) = (heap.alloc(), files.log().opened());
-    let context = Context {
-        rt,
-        alloc,
-        progress,
-    };
-    match heap.order(words) {
-        Ok(asked) => match print_answer(&context, &asked.order, files, &mut console.out) {
+    let before = files.log().opened();
+    match asked {
+        Ok(asked) => match print_answer(context, &asked.order, files, &mut console.out) {
             Ok(true) => DONE,
             Ok(false) => DISHONEST,
             Err(fault) => {
                 let ended = Ended {
-                    alloc,
+                    alloc: context.alloc,
                     order: &asked.order,
                     files: &*files,
                     opened: files.log().opened().saturating_sub(before),

@@ -11,13 +11,6 @@ pub cause-writing : (fault : Fault) (Reading Writing : Type 0) → HasCause faul
 cause-writing faults.CannotRead Reading Writing has = absurd has
 cause-writing fault Reading Writing has = has
 
--- A fault that no file causes has no need of a cause.
-pub no-cause : (fault : Fault) (Reading Writing : Type 0) → HasCause fault ⊥ ⊥
-    → HasCause fault Reading Writing
-no-cause faults.CannotRead Reading Writing has = absurd has
-no-cause faults.CannotWrite Reading Writing has = absurd has
-no-cause fault Reading Writing has = tt
-
 -- A file that could not be kept has failed, if its sink has counted failures.
 pub keep-failed : (old new : FailedFiles) (name : List ℕ) (count : ℕ) (e : FileError)
     → CountsWrite {T = Unit {0}} (Err e) name (old ++ replicate count name) new → e ≢ file.Memory

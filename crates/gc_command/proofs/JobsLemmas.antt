@@ -2,12 +2,9 @@
 use Rattle.gc_command.proofs.JobsNames.{◌≡◌, ℕ, ◌+◌, ◌<◌, map, drop, drop-cons, get_or, Bool, List, [], ◌∷◌, IfSome, sum, inl, inr, length, slice_get, Some, sym, ap, ◌∙◌, zero, suc, refl, add-one, arith, slice_get_within, slice_get_cases, JobParts, AreEvaluated, AreOnOneCircuit, FileBytes, GivesFile, Fault, IsJobList, listed, NameJob, HasNamedFault, NameJobs, FirstBadJob, HasLinesFault, HasListFault, HasJobsFault}
 use Rattle.std.specs.Prelude.{All, slice_index_or}
 use Rattle.gc_netlist.specs.Circuit.{Netlist, IsLawful}
-use Rattle.gc_file.specs.GarbledFile.{GarbledParts, IsGarbledFile}
 use Rattle.gc_command.specs.declared.fault.Fault.TheVariants as faults
 use Rattle.gc_command.specs.CircuitFile.{IsCircuit, HasReadingFault}
-use Rattle.gc_command.specs.Eval.{HasLabelFilesFault}
 use Rattle.gc_command.proofs.AnswerLemmas.{length-decoded}
-use Rattle.gc_command.proofs.EvalLemmas.{labels-kind}
 
 -- The words of a line are the first one and the others.
 pub parted : {X : Type 0} {words shown others : List X} {first : X} → shown ≡ words
@@ -16,17 +13,7 @@ pub parted : {X : Type 0} {words shown others : List X} {first : X} → shown �
 parted same parts v are = sym are ∙ ap (map v) (sym same ∙ parts)
 
 module _ (bytes : FileBytes) (Failed : List ℕ → Type 0) where
-  -- The fault of the label files is that of the words that name them,
-  pub labels-named : (c : Netlist) {words : List (List ℕ)} {garbled : List ℕ}
-      {labels : List (List ℕ)} (g : GarbledParts) → words ≡ garbled ∷ labels
-      → IfSome (bytes garbled) (λ held. IsGarbledFile held g) → (fault : Fault)
-      → HasLabelFilesFault bytes Failed labels fault → HasNamedFault bytes Failed c words fault
-  labels-named c g names read (faults.File fault) has = rw names (inr (g, read, has))
-  labels-named c g names read faults.CannotRead has = rw names (inr (g, read, has))
-  labels-named c g names read faults.Memory has = tt
-  labels-named c g names read fault has = absurd (labels-kind bytes Failed _ fault has)
-
-  -- that of a line that names no job is that of the lines,
+  -- The fault of a line that names no job is that of the lines,
   pub lines-fault : (c : Netlist) (words : List (List ℕ)) (lines all : List (List (List ℕ)))
       (fault : Fault)
       → (FirstBadJob bytes Failed c (words ∷ lines) fault → FirstBadJob bytes Failed c all fault)

@@ -16,5 +16,4 @@ pub mod LineLemmas
 pub mod WireLemmas
 pub mod LabelsLemmas
 pub mod AuditLemmas
-pub mod AuditFaults
 pub mod LocateLemmas

@@ -1,5 +1,5 @@
 -- From the files of lines, as they are read and then made jobs, to the jobs that the lines name.
-use Rattle.gc_command.proofs.JobsNames.{◌≡◌, ℕ, zero, suc, ◌<◌, ◌++◌, map, take, drop, get_or, arith, true, false, List, [], ◌∷◌, IfSome, inl, inr, length, Option, Some, None, sym, ap, ◌∙◌, refl, JobParts, FileBytes, FailedFiles, HasFailed, GivesFile, Fault, NameFiles, NameJob, HasNamedFault, NameJobs, FirstBadJob, HasLinesFault}
+use Rattle.gc_command.proofs.JobsNames.{◌≡◌, ℕ, zero, suc, ◌<◌, ◌++◌, map, take, drop, get_or, arith, true, false, List, [], ◌∷◌, inl, inr, length, sym, ap, ◌∙◌, refl, JobParts, FileBytes, FailedFiles, HasFailed, GivesFile, Fault, NameJob, HasNamedFault, NameJobs, FirstBadJob, HasLinesFault}
 use Rattle.std.proofs.lemmas.List.{get_or-take, take-append-drop, take-map, drop-map}
 use Rattle.std.proofs.lemmas.List as lists
 use Rattle.gc_netlist.specs.Circuit.{Netlist}
@@ -9,11 +9,11 @@ use Rattle.gc_file.specs.FileFault.{FirstFault}
 use Rattle.gc_command.specs.declared.fault.Fault.TheVariants as faults
 use Rattle.gc_command.specs.declared.line_files.LineFiles.{LineFiles}
 use Rattle.gc_command.specs.declared.line_files.LineFiles.TheVariants.{Unread, Unlabelled, Whole}
-use Rattle.gc_command.specs.Eval.{AreLabelFiles, HasGarbledFault}
+use Rattle.gc_command.specs.Eval.{AreFilesGiven, AreLabelFiles, HasFilesFault}
 use Rattle.gc_command.specs.LineFiles.{AreNamed, AreReadInTurn, MakeJob, HasBytesFault, HasBindingFault, MakeNoJob, MakeJobs, FirstMakeNoJob, HasMakingFault, are_whole, trailer_due}
 use Rattle.gc_command.proofs.AnswerLemmas.{found_where_known}
-use Rattle.gc_command.proofs.EvalLemmas.{garbled-kind}
-use Rattle.gc_command.proofs.JobsLemmas.{labels-named, lines-fault}
+use Rattle.gc_command.proofs.EvalLemmas.{files-kind}
+use Rattle.gc_command.proofs.JobsLemmas.{lines-fault}
 
 -- The digest at the place of a line's files is the one that their trailer is to be.
 pub trailer-at : {A : Type 0} (trailers : List (List ℕ)) (all : List (LineFiles A)) (i : ℕ)
@@ -76,15 +76,16 @@ module _ {A : Type 0} (bytes : FileBytes) (old : FailedFiles) where
   others_read new c words lines (Unlabelled held fault) more job read made = absurd made
 
 module _ (bytes : FileBytes) (Failed : List ℕ → Type 0) (c : Netlist) where
-  -- The fault of reading a garbled file, that of its bytes, and that of binding it are faults of
-  -- the words that name it.
-  pub garbled-fault : (garbled : List ℕ) (labels : List (List ℕ)) (fault : Fault)
-      → HasGarbledFault bytes Failed garbled fault
+  -- The fault of reading files, that of a garbled file's bytes, and that of binding files are faults
+  -- of the words that name them.
+  pub reading-fault : (garbled : List ℕ) (labels : List (List ℕ)) (fault : Fault)
+      → HasFilesFault bytes Failed garbled labels fault
       → HasNamedFault bytes Failed c (garbled ∷ labels) fault
-  garbled-fault garbled labels (faults.File fault) has = inl has
-  garbled-fault garbled labels faults.CannotRead has = inl has
-  garbled-fault garbled labels faults.Memory has = tt
-  garbled-fault garbled labels fault has = absurd (garbled-kind bytes Failed garbled fault has)
+  reading-fault garbled labels (faults.File fault) has = has
+  reading-fault garbled labels faults.CannotRead has = has
+  reading-fault garbled labels faults.Memory has = tt
+  reading-fault garbled labels fault has =
+      absurd (files-kind bytes Failed garbled labels fault has)
 
   bytes_fault : (garbled : List ℕ) (labels : List (List ℕ)) (held : List ℕ) (fault : Fault)
       → GivesFile (bytes garbled) held → HasBytesFault held fault
@@ -95,23 +96,24 @@ module _ (bytes : FileBytes) (Failed : List ℕ → Type 0) (c : Netlist) where
   bytes_fault garbled labels held fault given has = absurd has
 
   pub binding-fault : (garbled : List ℕ) (labels : List (List ℕ)) (g : GarbledParts)
-      (files : List LabelFileParts) (fault : Fault)
-      → IfSome (bytes garbled) (λ held. IsGarbledFile held g) → AreLabelFiles bytes labels files
+      (files : List LabelFileParts) (fault : Fault) → AreFilesGiven bytes garbled labels g files
       → HasBindingFault c g files fault → HasNamedFault bytes Failed c (garbled ∷ labels) fault
-  binding-fault garbled labels g files (faults.Binding fault) garbled_read labels_read has =
-      let named : NameFiles bytes (garbled ∷ labels) g files =
-      record {
-        garbled = garbled;
-        labels = labels;
-        names = refl;
-        garbled_read = garbled_read;
-        labels_read = labels_read;
-      } in
-      (g, (files, (named, has)))
-  binding-fault garbled labels g files fault garbled_read labels_read has = absurd has
+  binding-fault garbled labels g files (faults.Binding fault) given has =
+      (g, (files, (record { garbled = _; labels = _; names = refl; given = given }, has)))
+  binding-fault garbled labels g files fault given has = absurd has
+
+-- The files of a line are those that its words name,
+files_given : (bytes : FileBytes) (garbled : List ℕ) (labels : List (List ℕ)) (held : List ℕ)
+    (g : GarbledParts) (files : List LabelFileParts) → GivesFile (bytes garbled) held
+    → IsGarbledFile held g → AreLabelFiles bytes labels files
+    → AreFilesGiven bytes garbled labels g files
+files_given bytes garbled labels held g files given is labels_read = record {
+  garbled_read = found_where_known (λ held. IsGarbledFile held g) (bytes garbled) held given is;
+  labels_read = labels_read;
+}
 
 module _ {A : Type 0} (bytes : FileBytes) (Failed : List ℕ → Type 0) (c : Netlist) where
-  -- The job that a line's files make is the one that its words name,
+  -- the job that they make is the one that these name,
   named_job : (words : List (List ℕ)) (files : LineFiles A) (job : JobParts)
       → AreNamed bytes Failed words files → MakeJob c files job → NameJob bytes c words job
   named_job [] files job named made = absurd named
@@ -122,10 +124,7 @@ module _ {A : Type 0} (bytes : FileBytes) (Failed : List ℕ → Type 0) (c : Ne
       garbled = garbled;
       labels = labels;
       names = refl;
-      garbled_read =
-          found_where_known (λ held. IsGarbledFile held made.0) (bytes garbled) held.items named.0
-          made.1;
-      labels_read = named.1;
+      given = files_given bytes garbled labels held.items made.0 parts.items named.0 made.1 named.1;
     };
     bound = made.2;
   }
@@ -138,19 +137,20 @@ module _ {A : Type 0} (bytes : FileBytes) (Failed : List ℕ → Type 0) (c : Ne
       → HasNamedFault bytes Failed c words fault
   named_fault [] files fault named none = absurd named
   named_fault (garbled ∷ labels) (Unread first) fault named none =
-      rw none (garbled-fault bytes Failed c garbled labels first named)
+      rw none (reading-fault bytes Failed c garbled labels first (inl named))
   named_fault (garbled ∷ labels) (Unlabelled held first) fault named (inl bad) =
       bytes_fault bytes Failed c garbled labels held.items fault named.0 bad
   named_fault (garbled ∷ labels) (Unlabelled held first) fault named (inr (g, is, same)) =
-      rw same (labels-named bytes Failed c g refl
-      (found_where_known (λ held. IsGarbledFile held g) (bytes garbled) held.items named.0 is) first
-      named.1)
+      rw same (reading-fault bytes Failed c garbled labels first (inr (
+        g,
+        found_where_known (λ held. IsGarbledFile held g) (bytes garbled) held.items named.0 is,
+        named.1,
+      )))
   named_fault (garbled ∷ labels) (Whole held parts) fault named (inl bad) =
       bytes_fault bytes Failed c garbled labels held.items fault named.0 bad
   named_fault (garbled ∷ labels) (Whole held parts) fault named (inr (g, is, has)) =
       binding-fault bytes Failed c garbled labels g parts.items fault
-      (found_where_known (λ held. IsGarbledFile held g) (bytes garbled) held.items named.0 is)
-      named.1 has
+      (files_given bytes garbled labels held.items g parts.items named.0 is named.1) has
 
 module _ {A : Type 0} (bytes : FileBytes) (old new : FailedFiles) (c : Netlist) where
   -- The jobs that the files of lines make are those that the lines name, and no file has failed.

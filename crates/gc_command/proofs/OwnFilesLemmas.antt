@@ -1,7 +1,6 @@
 -- The files that a run makes for itself are honest.
-use Rattle.gc_command.proofs.Names.{◌≡◌, ℕ, ◌+◌, ◌<◌, ◌^◌, ◌++◌, ◌∙◌, Bool, List, [], ◌∷◌, length, map, take, get_or, slice_get, Some, inl, inr, length-append, refl, arith, common_steps, length-take-le, slice_get-map, slice_get_within, slice_get-get_or, slice_get_read, gets, Netlist, IsLawful, canonical_text, Fits, GarbledParts, IsGarbledFile, LabelFileParts, IsLabelFile, label_file, label_parts_of, honest_parts, one_file, IsHonestGarbled, AreHonestFiles, AreGarbledBytes, AreLabelsOf}
+use Rattle.gc_command.proofs.Names.{◌≡◌, ℕ, ◌+◌, ◌<◌, ◌^◌, ◌++◌, ◌∙◌, Bool, List, [], ◌∷◌, length, map, take, get_or, slice_get, Some, inl, inr, length-append, refl, arith, common_steps, length-take-le, slice_get-map, slice_get_within, slice_get-get_or, slice_get_read, gets, Netlist, IsLawful, Fits, GarbledParts, IsGarbledFile, LabelFileParts, IsLabelFile, label_file, label_parts_of, honest_parts, one_file, IsHonestGarbled, AreHonestFiles, AreGarbledBytes, AreLabelsOf}
 use Rattle.std.proofs.lemmas.Bool.{cases_eq}
-use Rattle.sha2.specs.Sha256.{sha256}
 use Rattle.gc_half.proofs.CanonicalLemmas.{IsGarbled-same}
 use Rattle.gc_file.specs.declared.parts.Version.TheVariants.{Two}
 use Rattle.gc_file.proofs.WrittenFiles.{are_files}
@@ -24,11 +23,6 @@ own-parts c seed bytes lawful are parts read = record {
   garbled = are.garbled;
   parts = one_file bytes parts _ read (own-garbled c seed bytes lawful are);
 }
-
--- Its digest is the circuit's.
-pub own-digest : {c : Netlist} {seed : List ℕ} {g : GarbledParts} → IsHonestGarbled c seed g
-    → g.digest ≡ sha256 (canonical_text c)
-own-digest honest = rw honest.parts refl
 
 -- The bytes of a label file are a label file.
 pub own-label-file : (c : Netlist) (seed : List ℕ) (index : ℕ) (bits : List Bool) (bytes : List ℕ)

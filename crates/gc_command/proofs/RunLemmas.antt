@@ -3,8 +3,8 @@ use Rattle.gc_command.proofs.Names.{ℕ, List, Bool, Ok, Err, flat_map, refl, ar
 use Rattle.gc_job.specs.declared.fault.EvalFault.TheVariants as eval
 use Rattle.gc_job.proofs.HonestFiles.{honest-files}
 use Rattle.gc_command.specs.declared.fault.Fault.TheVariants as faults
-use Rattle.gc_command.specs.Input.{HasInput}
-use Rattle.gc_command.specs.Run.{IsWantOfMemory, HasRunFault}
+use Rattle.gc_command.specs.Input.{IsInput}
+use Rattle.gc_command.specs.Run.{IsWantOfMemory, IsRunFault}
 use Rattle.gc_command.proofs.FaultLemmas.{bind-memory}
 
 module _ {c : Netlist} (lawful : IsLawful c) {seed : List ℕ} {values : List (List Bool)}
@@ -29,13 +29,16 @@ module _ {c : Netlist} (lawful : IsLawful c) {seed : List ℕ} {values : List (L
   honest-fault fault has = absurd has
 
 -- Where memory is missing, a run has that fault.
-pub want-of-memory : (bytes seed : List ℕ) (workers : ℕ) (texts : List (List ℕ))
-    → HasInput bytes seed texts → AreFew workers → (fault : Fault) → IsWantOfMemory fault
-    → HasRunFault bytes seed workers texts fault
-want-of-memory bytes seed workers texts input few (faults.Garbling fault) want =
-    (input, rw want few)
-want-of-memory bytes seed workers texts input few (faults.File fault) want = (want, input)
-want-of-memory bytes seed workers texts input few (faults.Binding fault) want = (want, input)
-want-of-memory bytes seed workers texts input few (faults.Evaluation fault) want = (want, input)
-want-of-memory bytes seed workers texts input few faults.Memory want = tt
-want-of-memory bytes seed workers texts input few fault want = absurd want
+pub want-of-memory : {bytes seed : List ℕ} {workers : ℕ} {texts : List (List ℕ)} {c : Netlist}
+    {values : List (List Bool)} → IsInput bytes seed texts c values → AreFew workers
+    → (fault : Fault) → IsWantOfMemory fault → IsRunFault bytes seed workers texts fault
+want-of-memory input few (faults.Garbling fault) want =
+    record { first = ((_, (_, input)), rw want few); cause = tt }
+want-of-memory input few (faults.File fault) want =
+    record { first = (want, (_, (_, input))); cause = tt }
+want-of-memory input few (faults.Binding fault) want =
+    record { first = (want, (_, (_, input))); cause = tt }
+want-of-memory input few (faults.Evaluation fault) want =
+    record { first = (want, (_, (_, input))); cause = tt }
+want-of-memory input few faults.Memory want = record { first = tt; cause = tt }
+want-of-memory input few fault want = absurd want

@@ -1,10 +1,8 @@
 -- What a command returns where its file is written, and where it can't be.
-use Rattle.gc_command.proofs.Names.{◌≡◌, ℕ, Bool, List, Option, Some, None, Result, length, sym, ap, ◌∙◌, length-map-range_with_len, Netlist, value_text_law, Fault, IsInputValue, AreFew}
-use Rattle.std.specs.Prelude.{IfSome, IfOk, OnOk, IsOk, Ok, Err}
+use Rattle.gc_command.proofs.Names.{◌≡◌, ℕ, Bool, List, Option, Some, None, length, sym, ap, ◌∙◌, length-map-range_with_len, Netlist, value_text_law, Fault, IsInputValue, AreFew}
+use Rattle.std.specs.Prelude.{IfSome}
 use Rattle.std.specs.List.{slice_get}
 use Rattle.gc_half.specs.Garbling.{GarblingParts, IsGarbled, FitsCircuit}
-use Rattle.gc_file.specs.declared.writer.WriteFault.{WriteFault}
-use Rattle.gc_file.specs.Written.{IsWritten}
 use Rattle.gc_command.specs.declared.fault.Fault.TheVariants as faults
 use Rattle.gc_command.specs.Wrote.{HasWritten, IsUnwritten, wrote_line}
 use Rattle.gc_command.specs.Deal.{IsDealInput, HasDealFault}
@@ -60,15 +58,3 @@ pub garbled-fits : (c : Netlist) (seed : List ℕ) (g : GarblingParts) → IsGar
     → FitsCircuit c g
 garbled-fits c seed g is =
     record { wires = is.wires; and_gates = is.garbling.row_count; outputs = is.outputs }
-
--- What holds of a result, where something else holds too if it is no fault.
-pub IfOk-with : {T E X : Type 0} (r : Result T E) {P Q : T → Type 0} → ((t : T) → X → P t → Q t)
-    → OnOk r X → IfOk r P → IfOk r Q
-IfOk-with (Ok t) with x p = with t x p
-IfOk-with (Err e) with x p = tt
-
--- The whole file was written.
-pub IsWritten-all : (file : List ℕ) (r : Result ℕ WriteFault) (old new : Option (List ℕ)) → IsOk r
-    → IfOk r (λ n. IsWritten file (Ok n) old new) → IsWritten file r old new
-IsWritten-all file (Ok n) old new all written = written
-IsWritten-all file (Err fault) old new all written = absurd (cc all)

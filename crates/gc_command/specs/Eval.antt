@@ -53,18 +53,17 @@ HasFilesFault bytes Failed garbled labels fault =
     ⊎ ((g : GarbledParts) × IfSome (bytes garbled) (λ held. IsGarbledFile held g)
     × HasLabelFilesFault bytes Failed labels fault)
 
--- The files of these names are a circuit, a garbled file and label files.
-pub record AreEvalFiles (bytes : FileBytes) (circuit garbled : List ℕ) (labels : List (List ℕ))
-    (c : Netlist) (g : GarbledParts) (files : List LabelFileParts) : Type 0 where
-  pub circuit_read : IfSome (bytes circuit) (λ held. IsCircuit held c)
-  pub garbled_read : IfSome (bytes garbled) (λ held. IsGarbledFile held g)
-  pub labels_read : AreLabelFiles bytes labels files
-
 -- The files of these names are a garbled file and label files.
 pub record AreFilesGiven (bytes : FileBytes) (garbled : List ℕ) (labels : List (List ℕ))
     (g : GarbledParts) (files : List LabelFileParts) : Type 0 where
   pub garbled_read : IfSome (bytes garbled) (λ held. IsGarbledFile held g)
   pub labels_read : AreLabelFiles bytes labels files
+
+-- The files of these names are a circuit, a garbled file and label files.
+pub record AreEvalFiles (bytes : FileBytes) (circuit garbled : List ℕ) (labels : List (List ℕ))
+    (c : Netlist) (g : GarbledParts) (files : List LabelFileParts) : Type 0 where
+  pub circuit_read : IfSome (bytes circuit) (λ held. IsCircuit held c)
+  pub given : AreFilesGiven bytes garbled labels g files
 
 -- What `eval` returns: the lines of what the files decode to, whatever the number of workers.
 pub record AnswersEval (bytes : FileBytes) (circuit garbled : List ℕ) (workers : ℕ)

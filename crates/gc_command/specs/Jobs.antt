@@ -2,7 +2,7 @@
 -- known.
 use Rattle.std.specs.Prelude.{◌≡◌, ◌≢◌, ℕ, ◌<◌, ◌⊎◌, Bool, List, [], ◌∷◌, ◌++◌, flat_map, length, IfSome, Err}
 use Rattle.gc_netlist.specs.Circuit.{Netlist}
-use Rattle.gc_file.specs.GarbledFile.{GarbledParts, IsGarbledFile}
+use Rattle.gc_file.specs.GarbledFile.{GarbledParts}
 use Rattle.gc_file.specs.LabelFile.{LabelFileParts}
 use Rattle.gc_workers.specs.Workers.{AreFew}
 use Rattle.gc_job.specs.declared.fault.BindFault.TheVariants as bind
@@ -16,7 +16,7 @@ use Rattle.gc_command.specs.declared.fault.Fault.TheVariants.{Circuit, File, Bin
 use Rattle.gc_command.specs.declared.value_form.ValueForm.{ValueForm}
 use Rattle.gc_command.specs.CircuitFile.{IsCircuit, HasCircuitFault}
 use Rattle.gc_command.specs.Lines.{output_lines}
-use Rattle.gc_command.specs.Eval.{AreLabelFiles, HasFilesFault}
+use Rattle.gc_command.specs.Eval.{AreFilesGiven, HasFilesFault}
 use Rattle.gc_command.specs.JobList.{IsJobList, listed}
 
 -- The words name a garbled file and then label files, of these parts.
@@ -25,8 +25,7 @@ pub record NameFiles (bytes : FileBytes) (words : List (List ℕ)) (g : GarbledP
   pub garbled : List ℕ
   pub labels : List (List ℕ)
   pub names : words ≡ garbled ∷ labels
-  pub garbled_read : IfSome (bytes garbled) (λ held. IsGarbledFile held g)
-  pub labels_read : AreLabelFiles bytes labels files
+  pub given : AreFilesGiven bytes garbled labels g files
 
 -- The words name the files of this job of the circuit.
 pub record NameJob (bytes : FileBytes) (c : Netlist) (words : List (List ℕ)) (job : JobParts)

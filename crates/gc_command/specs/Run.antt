@@ -49,7 +49,7 @@ HasRunFault bytes seed workers texts (Evaluation fault) =
 HasRunFault bytes seed workers texts fault = HasInputFault bytes seed texts fault
 
 -- The fault is one that `run` has, and no file is its cause.
-pub record IsInputFault (text seed : List ℕ) (workers : ℕ) (texts : List (List ℕ)) (fault : Fault)
+pub record IsRunFault (text seed : List ℕ) (workers : ℕ) (texts : List (List ℕ)) (fault : Fault)
     : Type 0 where
   pub first : HasRunFault text seed workers texts fault
   pub cause : HasCause fault ⊥ ⊥

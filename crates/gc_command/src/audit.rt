@@ -13,8 +13,9 @@ ghost use Rattle.gc_command.specs.Audit.{AnswersAudit, HasAuditFault, IsAuditFau
 use crate::audit_lines::audit_lines;
 use crate::context::Context;
 use crate::digest::with_digest;
-use crate::evaluated_files::{read_garbled_file, read_label_files};
+use crate::evaluated_files::read_named;
 use crate::fault::Fault;
+use crate::job::Given;
 use crate::progress::{Progress, Stage};
 use gc_audit::{
     ComparedFile, GarbledAudit, PartsAudit, SeedReference, are_counts_right, audit_compared,
@@ -73,10 +74,7 @@ pub fn audit<R: Threads + Wait + Sync, A: Allocator + Copy + Send + Sync, F: Fil
     drop(bytes);
     let compared = made?;
     let found = garbled_audit(compared.named, digest, compared.parts);
-    match audit_lines(alloc, &circuit, &found, &compared) {
-        Ok(found) => Ok(found),
-        Err(_) => Err(Fault::Memory),
-    }
+    Ok(audit_lines(alloc, &circuit, &found, &compared)?)
 }
 
 /// What is found of a garbled file that names a digest, where the circuit's digest is this, and this is found of the
@@ -89,8 +87,8 @@ fn garbled_audit(named: [u8; 32], digest: [u8; 32], parts: Option<PartsAudit>) -
     GarbledAudit { digest, parts }
 }
 
-/// A seed, a garbled file and label files.
-type Input<A> = (Seed, Garbled<A>, Vec<LabelFile<A>, A>);
+/// A seed, and the files that are compared.
+type Input<A> = (Seed, Given<A>);
 
 /// Reads the circuit of a text, the seed, the garbled file and the label files, in turn. The caller ensures that the
 /// text is that of the circuit's file.
@@ -104,7 +102,7 @@ fn read_input<R, A: Allocator + Copy, F: Files, P: Progress>(
     ensures seed { IfOk result (λ made. IsSeed (string_bytes order.now.seed) made.1.0) }
     ensures read { IfOk result (λ made. AreEvalFiles (F.bytes files.old)
         (string_bytes order.now.circuit) (string_bytes order.now.garbled)
-        (map string_bytes order.now.labels.items) made.0 made.1.1 made.1.2.items) }
+        (map string_bytes order.now.labels.items) made.0 made.1.1.0 made.1.1.1.items) }
     ensures fault { IfErr result (IsAuditFault (F.bytes files.old)
         (HasFailed (F.failures files.old) (F.failures files.new)) (string_bytes order.now.circuit)
         (string_bytes order.now.seed) (string_bytes order.now.garbled)
@@ -115,9 +113,8 @@ fn read_input<R, A: Allocator + Copy, F: Files, P: Progress>(
     let circuit = Circuit::read(alloc, text)?;
     let seed = Seed::from_hex(order.seed.as_str())?;
     context.progress.begin(2, 3, Stage::ReadingFiles);
-    let garbled = read_garbled_file(alloc, order.garbled.as_str(), files)?;
-    let labels = read_label_files(alloc, &order.labels, files)?;
-    Ok((circuit, (seed, garbled, labels)))
+    let given = read_named(alloc, order.garbled.as_str(), &order.labels, files)?;
+    Ok((circuit, (seed, given)))
 }
 
 /// What files are compared with, and what is found of the garbled file's parts, before it is known whether the file
@@ -139,16 +136,16 @@ fn compare_input<R, A: Allocator + Copy, P: Progress>(
     input: Input<A>,
 ) -> Result<Compared<A>, WorkFault>
     ensures seed { IfOk result (λ made. made.seed ≡ input.0) }
-    ensures version { IfOk result (λ made. made.version ≡ input.1.version) }
-    ensures named { IfOk result (λ made. made.named ≡ input.1.digest) }
-    ensures label_files { IfOk result (λ made. made.labels.items ≡ input.2.items) }
+    ensures version { IfOk result (λ made. made.version ≡ input.1.0.version) }
+    ensures named { IfOk result (λ made. made.named ≡ input.1.0.digest) }
+    ensures label_files { IfOk result (λ made. made.labels.items ≡ input.1.1.items) }
     ensures labels { IfOk result (λ made. HasLabels circuit.now input.0 made.garbling) }
     ensures parts { IfOk result (λ made.
-        MatchOption made.parts (¬ AreCountsRight circuit.now input.1)
-        (IsPartsAudit circuit.now (garbling_of circuit.now input.0) input.0 input.1)) }
+        MatchOption made.parts (¬ AreCountsRight circuit.now input.1.0)
+        (IsPartsAudit circuit.now (garbling_of circuit.now input.0) input.0 input.1.0)) }
     ensures fault { IfErr result (λ fault. fault ≡ WorkFault.Memory) }
 {
-    let (seed, garbled, labels) = input;
+    let (seed, (garbled, labels)) = input;
     let (version, named) = (garbled.version(), garbled.digest());
     let gates = circuit.gates();
     context.progress.begin(3, 3, Stage::Garbling { gates });

@@ -16,7 +16,7 @@ use gc_audit::{
     DifferingRows, EntryDifference, GarbledAudit, LabelsVerdict, PartsAudit, RowDifference,
     SeedReference, audit_labels,
 };
-use gc_circuit::{Circuit, Memory};
+use gc_circuit::Circuit;
 use gc_file::Version;
 use std::alloc::{AllocError, Allocator};
 
@@ -26,7 +26,7 @@ pub(crate) fn audit_lines<A: Allocator + Copy>(
     circuit: &Circuit<A>,
     found: &GarbledAudit,
     compared: &Compared<A>,
-) -> Result<Audited<A>, Memory>
+) -> Result<Audited<A>, AllocError>
     requires { HasLabels circuit.now compared.now.seed compared.now.garbling }
     ensures { IfOk result (λ made. (file : GarbledParts) → file.version ≡ compared.now.version
         → IsGarbledAudit circuit.now (garbling_of circuit.now compared.now.seed)
@@ -185,7 +185,7 @@ fn push_label_files<A: Allocator + Copy>(
     alloc: A,
     circuit: &Circuit<A>,
     compared: &Compared<A>,
-) -> Result<bool, Memory>
+) -> Result<bool, AllocError>
     requires { HasLabels circuit.now compared.now.seed compared.now.garbling }
     ensures { IfOk result (λ all_dealt. (added : List ℕ)
         × AreLabelsFound circuit.now compared.now.seed compared.now.labels.items all_dealt added
@@ -199,7 +199,9 @@ fn push_label_files<A: Allocator + Copy>(
     let files = compared.labels.as_slice();
     let mut all_dealt = true;
     for file in files {
-        let verdict = audit_labels(alloc, &of, file)?;
+        let Ok(verdict) = audit_labels(alloc, &of, file) else {
+            return Err(AllocError);
+        };
         push_verdict(lines, file.index(), &verdict)?;
         all_dealt &= is_dealt(&verdict);
     }

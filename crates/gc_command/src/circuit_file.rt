@@ -53,16 +53,8 @@ pub fn read_circuit_and_digest<R: Threads, A: Allocator + Copy + Send + Sync, F:
     let (circuit, (), digest) = with_digest(
         rt,
         text,
-        &mut || circuit_of(alloc, text),
+        &mut || Ok((Circuit::read(alloc, text)?, ())),
         &|_circuit, ()| (),
     )?;
     Ok((circuit, digest))
-}
-
-/// The circuit of a text, and nothing else.
-fn circuit_of<A: Allocator + Copy>(alloc: A, text: &[u8]) -> Result<(Circuit<A>, ()), Fault>
-    ensures circuit { IfOk result (λ made. IsCircuit text.now made.0) }
-    ensures fault { IfErr result (IsTextFault text.now) }
-{
-    Ok((Circuit::read(alloc, text)?, ()))
 }

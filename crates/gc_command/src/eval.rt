@@ -17,7 +17,7 @@ ghost use Rattle.gc_command.specs.Eval.{AreEvalFiles, AreFilesGiven, HasFilesFau
 use crate::binder::Binder;
 use crate::context::Context;
 use crate::digest::with_digest;
-use crate::evaluated_files::{are_regular, read_garbled_file, read_label_files};
+use crate::evaluated_files::{are_regular, read_named};
 use crate::fault::Fault;
 use crate::job::Given;
 use crate::lines::output_lines;
@@ -98,34 +98,13 @@ fn read_files<R: Threads + Sync, A: Allocator + Copy + Send + Sync, F: Files, P:
     ensures same { (name : List ℕ) → F.bytes files.new name ≡ F.bytes files.old name }
 {
     if are_regular(order.garbled.as_str(), &order.labels, files) {
-        return read_ahead(context, order, text, files);
+        let (read, given) = read_side_by_side(context, order, text, files);
+        let circuit = read?;
+        let given = given?;
+        return Ok((circuit, given));
     }
     let circuit = Circuit::read(context.alloc, text)?;
     let given = read_given(context, order, files)?;
-    Ok((circuit, given))
-}
-
-/// The circuit of a text and the other files of an evaluation, as [`read_files`] reads them ahead.
-fn read_ahead<R: Threads + Sync, A: Allocator + Copy + Send + Sync, F: Files, P: Progress>(
-    context: &Context<'_, R, A, P>,
-    order: &EvalOrder,
-    text: &[u8],
-    files: &mut F,
-) -> Result<(Circuit<A>, Given<A>), Fault>
-    requires { GivesFile (F.bytes files.old (string_bytes order.now.circuit)) text.now }
-    ensures read { IfOk result (λ made. AreEvalFiles (F.bytes files.old)
-        (string_bytes order.now.circuit) (string_bytes order.now.garbled)
-        (map string_bytes order.now.labels.items) made.0 made.1.0 made.1.1.items) }
-    ensures lawful { IfOk result (λ made. IsLawful made.0) }
-    ensures fault { IfErr result (IsEvalFault (F.bytes files.old)
-        (HasFailed (F.failures files.old) (F.failures files.new)) (string_bytes order.now.circuit)
-        (string_bytes order.now.garbled) order.now.workers
-        (map string_bytes order.now.labels.items)) }
-    ensures same { (name : List ℕ) → F.bytes files.new name ≡ F.bytes files.old name }
-{
-    let (read, given) = read_side_by_side(context, order, text, files);
-    let circuit = read?;
-    let given = given?;
     Ok((circuit, given))
 }
 
@@ -161,7 +140,7 @@ fn read_side_by_side<R: Threads + Sync, A: Allocator + Copy + Send + Sync, F: Fi
     )
 }
 
-/// Reads the garbled file and the label files of these names.
+/// Reads the garbled file and the label files of the order.
 fn read_given<R, A: Allocator + Copy, F: Files, P: Progress>(
     context: &Context<'_, R, A, P>,
     order: &EvalOrder,
@@ -176,9 +155,7 @@ fn read_given<R, A: Allocator + Copy, F: Files, P: Progress>(
     ensures same { (name : List ℕ) → F.bytes files.new name ≡ F.bytes files.old name }
 {
     context.progress.begin(2, 3, Stage::ReadingFiles);
-    let garbled = read_garbled_file(context.alloc, order.garbled.as_str(), files)?;
-    let labels = read_label_files(context.alloc, &order.labels, files)?;
-    Ok((garbled, labels))
+    read_named(context.alloc, order.garbled.as_str(), &order.labels, files)
 }
 
 /// The digest that a garbled file names, and what it and label files decode to with the order's number of workers, or

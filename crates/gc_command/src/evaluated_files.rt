@@ -4,9 +4,10 @@ ghost use Rattle.std.specs.Prelude.{◌≡◌, ℕ, List, map, IfOk, IfErr, IfSo
 ghost use Rattle.gc_file.specs.GarbledFile.{IsGarbledFile};
 ghost use Rattle.gc_file.specs.LabelFile.{IsLabelFile};
 ghost use Rattle.gc_disk.specs.Files.{HasFailed};
-ghost use Rattle.gc_command.specs.Eval.{HasGarbledFault, HasLabelFault, HasLabelFilesFault, AreLabelFiles};
+ghost use Rattle.gc_command.specs.Eval.{AreFilesGiven, AreLabelFiles, HasFilesFault, HasGarbledFault, HasLabelFault, HasLabelFilesFault};
 
 use crate::fault::Fault;
+use crate::job::Given;
 use gc_disk::Files;
 use gc_file::{Garbled, LabelFile, read_garbled_from, read_labels};
 use std::alloc::Allocator;
@@ -17,8 +18,28 @@ pub fn are_regular<N: AsStr, F: Files>(garbled: &str, labels: &[N], files: &F) -
     files.is_regular(garbled) && labels.iter().all(|name| files.is_regular(name.as_str()))
 }
 
+/// The garbled file and the label files of these names. Each is read and checked before the next is opened.
+pub fn read_named<N: AsStr, A: Allocator + Copy, F: Files>(
+    alloc: A,
+    garbled: &str,
+    labels: &[N],
+    files: &mut F,
+) -> Result<Given<A>, Fault>
+    ensures given { IfOk result (λ given. AreFilesGiven (F.bytes files.old) garbled.now
+        (map N.text labels.now) given.0 given.1.items) }
+    ensures fault { IfErr result (HasFilesFault (F.bytes files.old)
+        (HasFailed (F.failures files.old) (F.failures files.new))
+        garbled.now (map N.text labels.now)) }
+    ensures counted { OnOk result (F.failures files.new ≡ F.failures files.old) }
+    ensures same { (n : List ℕ) → F.bytes files.new n ≡ F.bytes files.old n }
+{
+    let garbled = read_garbled_file(alloc, garbled, files)?;
+    let labels = read_label_files(alloc, labels, files)?;
+    Ok((garbled, labels))
+}
+
 /// The garbled file of this name, read in pieces.
-pub fn read_garbled_file<A: Allocator + Copy, F: Files>(
+fn read_garbled_file<A: Allocator + Copy, F: Files>(
     alloc: A,
     name: &str,
     files: &mut F,

@@ -12,7 +12,7 @@ use crate::garbler::Garbler;
 use crate::set_wires::SetWires;
 use crate::values::read_values;
 use arrayvec::ArrayVec;
-use gc_circuit::{ReadFault, wire_bits};
+use gc_circuit::wire_bits;
 use gc_disk::Files;
 use gc_half::{encode, garble_one_thread};
 use gc_label::{Label, Offset, Seed, offset};
@@ -106,12 +106,8 @@ impl<A: Allocator + Copy> Garbler<'_, A> {
             return Err(Fault::Garbling(WorkFault::Memory));
         };
         let zero_labels = garbling.into_zero_labels();
-        let Ok(bits) = wire_bits(alloc, circuit, values) else {
-            return Err(Fault::Circuit(ReadFault::Memory));
-        };
-        let Ok(wires) = SetWires::new(alloc, circuit, from, count) else {
-            return Err(Fault::Memory);
-        };
+        let bits = wire_bits(alloc, circuit, values)?;
+        let wires = SetWires::new(alloc, circuit, from, count)?;
         Ok(LabelLines {
             wires,
             zero_labels,

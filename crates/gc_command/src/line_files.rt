@@ -9,7 +9,7 @@ ghost use Rattle.gc_command.specs.Jobs.{HasNamedFault, NameJob};
 ghost use Rattle.gc_command.specs.LineFiles.{AreNamed, MakeJob, MakeNoJob, are_whole, garbled_bytes, trailer_due};
 
 use crate::binder::Binder;
-use crate::evaluated_files::{are_regular, read_garbled_file, read_label_files};
+use crate::evaluated_files::{are_regular, read_label_files, read_named};
 use crate::fault::Fault;
 use crate::job_list::words_of_line;
 use gc_disk::Files;
@@ -121,8 +121,7 @@ impl<'c, A: Allocator + Copy> Binder<'c, A> {
         let Some((garbled, labels)) = words.split_first() else {
             unreachable!()
         };
-        let garbled = read_garbled_file(self.alloc, garbled, files)?;
-        let labels = read_label_files(self.alloc, labels, files)?;
+        let (garbled, labels) = read_named(self.alloc, garbled, labels, files)?;
         let bound = JobFiles {
             garbled,
             labels: &labels,

@@ -10,7 +10,7 @@ use crate::fault::Fault;
 use crate::lines::output_lines;
 use crate::value_form::ValueForm;
 use crate::values::read_values;
-use gc_circuit::{ReadFault, plain_eval};
+use gc_circuit::plain_eval;
 use gc_disk::Files;
 use gc_order::PlainOrder;
 use std::alloc::Allocator;
@@ -36,9 +36,7 @@ pub fn plain<A: Allocator + Copy, F: Files>(
     let name = order.circuit.as_str();
     let circuit = read_circuit(alloc, name, files)?;
     let values = read_values(alloc, circuit.input_widths(), &order.values)?;
-    let outputs = plain_eval(alloc, &circuit, &values).map_err(|_| Fault::Circuit(
-        ReadFault::Memory,
-    ))?;
+    let outputs = plain_eval(alloc, &circuit, &values)?;
     let form = ValueForm::by_flag(order.hex);
     Ok(output_lines(alloc, form, circuit.output_widths(), &outputs)?)
 }

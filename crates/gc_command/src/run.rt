@@ -1,12 +1,15 @@
 //! The command `run`: garbling, dealing and evaluating in one.
 
 ghost use Rattle.std.specs.Prelude.{◌≡◌, ℕ, List, map, IfOk, IfErr, IfSome, string_bytes};
+ghost use Rattle.sha2.specs.Sha256.{sha256};
+ghost use Rattle.gc_netlist.specs.Canon.{canonical_text};
 ghost use Rattle.gc_half.specs.Garbling.{IsGarbled};
+ghost use Rattle.gc_workers.specs.Workers.{AreFew};
 ghost use Rattle.gc_work.specs.WorkFault.{JudgesWorkers};
 ghost use Rattle.gc_command.specs.Fault.{HasReadCause};
 ghost use Rattle.gc_command.specs.Input.{IsInput};
 ghost use Rattle.gc_command.specs.Lines.{form_by_flag};
-ghost use Rattle.gc_command.specs.Run.{AnswersRun, HasRunFault, IsInputFault};
+ghost use Rattle.gc_command.specs.Run.{AnswersRun, HasRunFault, IsRunFault};
 
 use crate::binder::Binder;
 use crate::context::Context;
@@ -51,18 +54,26 @@ pub fn run<R: Threads + Wait + Sync, A: Allocator + Copy + Send + Sync, F: Files
         (string_bytes order.now.circuit)) }
     ensures same { (name : List ℕ) → F.bytes files.new name ≡ F.bytes files.old name }
 {
-    let (rt, alloc) = (context.rt, context.alloc);
     context.progress.begin(1, 3, Stage::ReadingCircuit);
-    let bytes = files.read(alloc, order.circuit.as_str())?;
-    let text = bytes.as_slice();
-    let (circuit, made, digest) = with_digest(
-        rt,
-        text,
-        &mut || read_input(alloc, order, text),
-        &|circuit, input| garble_input(context, order, circuit, input),
-    )?;
-    drop(bytes);
-    let (garbling, (seed, values)) = made?;
+    let text = files.read(context.alloc, order.circuit.as_str())?;
+    run_text(context, order, text)
+}
+
+/// Does what `run` does with the text of the circuit's file, which is dropped once the circuit is garbled.
+fn run_text<R: Threads + Wait + Sync, A: Allocator + Copy + Send + Sync, P: Progress>(
+    context: &Context<'_, R, A, P>,
+    order: &RunOrder,
+    text: Vec<u8, A>,
+) -> Result<Vec<u8, A>, Fault>
+    ensures answers { IfOk result (λ lines. AnswersRun text.items (string_bytes order.now.seed)
+        order.now.workers (form_by_flag order.now.hex) (map string_bytes order.now.values.items)
+        lines.items) }
+    ensures fault { IfErr result (IsRunFault text.items (string_bytes order.now.seed)
+        order.now.workers (map string_bytes order.now.values.items)) }
+{
+    let alloc = context.alloc;
+    let (circuit, garbling, (seed, values), digest) = garble_text(context, order, &text)?;
+    drop(text);
     let garbler = Garbler {
         alloc,
         circuit: &circuit,
@@ -77,9 +88,35 @@ pub fn run<R: Threads + Wait + Sync, A: Allocator + Copy + Send + Sync, F: Files
         circuit: &circuit,
         digest: &digest,
     };
-    let outputs = binder.evaluate_files(rt, (garbled, labels), 1)?;
+    let outputs = binder.evaluate_files(context.rt, (garbled, labels), 1)?;
     let form = ValueForm::by_flag(order.hex);
     Ok(output_lines(alloc, form, circuit.output_widths(), &outputs)?)
+}
+
+/// The circuit of a text, its garbling under the seed with this many workers, the seed and the values, and the
+/// circuit's digest.
+fn garble_text<R: Threads + Wait + Sync, A: Allocator + Copy + Send + Sync, P: Progress>(
+    context: &Context<'_, R, A, P>,
+    order: &RunOrder,
+    text: &[u8],
+) -> Result<(Circuit<A>, Garbling<A>, Input<A>, [u8; 32]), Fault>
+    ensures input { IfOk result (λ made. IsInput text.now (string_bytes order.now.seed)
+        (map string_bytes order.now.values.items) made.0
+        (map (λ value. value.items) made.2.1.items)) }
+    ensures garbled { IfOk result (λ made. IsGarbled made.0 made.2.0 made.1) }
+    ensures few { IfOk result (λ _. AreFew order.now.workers) }
+    ensures digest { IfOk result (λ made. made.3 ≡ sha256 (canonical_text made.0)) }
+    ensures fault { IfErr result (IsRunFault text.now (string_bytes order.now.seed)
+        order.now.workers (map string_bytes order.now.values.items)) }
+{
+    let (circuit, made, digest) = with_digest(
+        context.rt,
+        text,
+        &mut || read_input(context.alloc, order, text),
+        &|circuit, input| garble_input(context, order, circuit, input),
+    )?;
+    let (garbling, input) = made?;
+    Ok((circuit, garbling, input, digest))
 }
 
 /// Reads the circuit of a text, the seed and the values.
@@ -91,7 +128,7 @@ fn read_input<A: Allocator + Copy>(
     ensures input { IfOk result (λ made. IsInput text.now (string_bytes order.now.seed)
         (map string_bytes order.now.values.items) made.0
         (map (λ value. value.items) made.1.1.items)) }
-    ensures fault { IfErr result (IsInputFault text.now (string_bytes order.now.seed)
+    ensures fault { IfErr result (IsRunFault text.now (string_bytes order.now.seed)
         order.now.workers (map string_bytes order.now.values.items)) }
 {
     let circuit = Circuit::read(alloc, text)?;

@@ -6,8 +6,8 @@ ghost use Rattle.gc_netlist.specs.Circuit.{input_wires};
 ghost use Rattle.gc_netlist.specs.Reading.{is_set};
 ghost use Rattle.gc_command.specs.Labels.{set_from};
 
-use gc_circuit::{Circuit, Memory};
-use std::alloc::{Allocator, Global};
+use gc_circuit::Circuit;
+use std::alloc::{AllocError, Allocator, Global};
 use std::marker::Model;
 
 /// The wires of a circuit that are set, one after another, from one on and at most as many as asked for.
@@ -41,7 +41,7 @@ impl<A: Allocator> SetWires<A> {
         circuit: &Circuit<C>,
         from: u32,
         count: u32,
-    ) -> Result<SetWires<A>, Memory>
+    ) -> Result<SetWires<A>, AllocError>
         ensures { IfOk result (λ wires. wires ≡ record {
           wires = circuit.now.wires;
           left = set_from circuit.now from count;
@@ -80,7 +80,10 @@ impl<A: Allocator> SetWires<A> {
 }
 
 /// For each wire whether it is set: it is an input wire, or a gate sets it.
-fn flags<A: Allocator, C: Allocator>(alloc: A, circuit: &Circuit<C>) -> Result<Vec<bool, A>, Memory>
+fn flags<A: Allocator, C: Allocator>(
+    alloc: A,
+    circuit: &Circuit<C>,
+) -> Result<Vec<bool, A>, AllocError>
     ensures { IfOk result (λ v. v.items ≡ map (is_set (input_wires circuit.now) circuit.now.gates)
         (range_with_len 0 circuit.now.wires)) }
 {

@@ -18,12 +18,7 @@ abbrev pub HasEvaluationFault : FileBytes → Netlist → List (List ℕ) → Ev
 HasEvaluationFault bytes c words fault =
     (job : JobParts) × NameJob bytes c words job × IsEvaluated job (Err fault)
 
--- The fault is that this output's label is unknown.
-abbrev pub HasUnknownOutput : FileBytes → Netlist → List (List ℕ) → ℕ → Type 0
-HasUnknownOutput bytes c words output =
-    HasEvaluationFault bytes c words (UnknownOutputLabel output)
-
--- The job on this line of the list, counted from 1, has such an output.
+-- The job on this line of the list, counted from 1, has an unknown label of this output.
 pub record IsUnknownLine (bytes : FileBytes) (circuit list : List ℕ) (line output : ℕ)
     : Type 0 where
   pub c : Netlist
@@ -34,7 +29,7 @@ pub record IsUnknownLine (bytes : FileBytes) (circuit list : List ℕ) (line out
   pub counted : line ≡ before + 1
   pub words : List ℕ
   pub at : slice_get (slice_split (λ b. b == 10) text) before ≡ Some words
-  pub unknown : HasUnknownOutput bytes c (tokens words) output
+  pub unknown : HasEvaluationFault bytes c (tokens words) (UnknownOutputLabel output)
 
 -- The place is that line. Where the files can't be read once more, it is the whole list.
 abbrev pub IsJobPlace : FileBytes → List ℕ → List ℕ → ℕ → List ℕ → Type 0

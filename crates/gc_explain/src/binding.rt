@@ -5,7 +5,7 @@ use crate::listed::JobNames;
 use crate::sentence::{Explanation, alone, on_file};
 use gc_circuit::Circuit;
 use gc_disk::Reread;
-use gc_file::{Garbled, LabelFile, read_garbled, read_labels};
+use gc_file::{Garbled, LabelFile};
 use gc_job::{BindFault, Job, JobFiles};
 use gc_order::{JobsOrder, Order};
 use std::alloc::{AllocError, Allocator};
@@ -13,8 +13,7 @@ use std::alloc::{AllocError, Allocator};
 impl<A: Allocator + Copy, F: Reread> Ended<'_, A, F> {
     /// Explains why files are no job for the circuit: those of the job whose file was opened last.
     pub(crate) fn explain_binding(&self, fault: BindFault) -> Option<Explanation<A>> {
-        let text = self.read_again(self.circuit())?;
-        let circuit = Circuit::read(self.alloc, &text).ok()?;
+        let circuit = self.circuit_again(self.circuit())?;
         let names = match self.order {
             Order::Jobs(jobs) => self.unbound_names(&circuit, jobs, fault)?,
             _ => self.job_names()?,
@@ -55,13 +54,8 @@ impl<A: Allocator + Copy, F: Reread> Ended<'_, A, F> {
         digest: &[u8; 32],
         names: &JobNames<A>,
     ) -> Option<BindFault> {
-        let bytes = self.read_again(names.garbled.as_str())?;
-        let garbled = read_garbled(self.alloc, &bytes).ok()?;
-        let mut labels = Vec::with_capacity(self.alloc, names.labels.len()).ok()?;
-        for name in &names.labels {
-            let bytes = self.read_again(name.as_str())?;
-            labels.push(read_labels(self.alloc, &bytes).ok()?).ok()?;
-        }
+        let garbled = self.garbled_again(names.garbled.as_str())?;
+        let labels = self.labels_again(&names.labels)?;
         let files = JobFiles {
             garbled,
             labels: &labels,
@@ -77,8 +71,7 @@ impl<A: Allocator + Copy, F: Reread> Ended<'_, A, F> {
         fault: BindFault,
     ) -> Option<Explanation<A>> {
         let name = names.garbled.as_str();
-        let bytes = self.read_again(name)?;
-        let garbled = read_garbled(self.alloc, &bytes).ok()?;
+        let garbled = self.garbled_again(name)?;
         let sentence = match fault {
             BindFault::OtherCircuit => digest_sentence(self.alloc, circuit, &garbled),
             _ => counts_sentence(self.alloc, circuit, &garbled),
@@ -95,8 +88,7 @@ impl<A: Allocator + Copy, F: Reread> Ended<'_, A, F> {
     ) -> Option<Explanation<A>> {
         let mut found = Vec::with_capacity(self.alloc, names.labels.len()).ok()?;
         for name in &names.labels {
-            let bytes = self.read_again(name.as_str())?;
-            let file = read_labels(self.alloc, &bytes).ok()?;
+            let file = self.label_file_again(name.as_str())?;
             if fault_of(circuit, &found, &file) == Some(fault) {
                 let sentence = label_sentence(self.alloc, circuit, &file, fault);
                 return on_file(self.alloc, name.as_str(), sentence);

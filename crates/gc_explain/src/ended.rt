@@ -1,13 +1,20 @@
 //! An order that a fault has ended.
 
-ghost use Rattle.std.specs.Prelude.{◌≡◌, IfSome};
+ghost use Rattle.std.specs.Prelude.{◌≡◌, map, IfSome};
+ghost use Rattle.gc_file.specs.GarbledFile.{IsGarbledFile};
+ghost use Rattle.gc_file.specs.LabelFile.{IsLabelFile};
 ghost use Rattle.gc_order.specs.Order.{text_of};
 ghost use Rattle.gc_disk.specs.Files.{GivesFile};
+ghost use Rattle.gc_command.specs.CircuitFile.{IsCircuit};
+ghost use Rattle.gc_command.specs.Eval.{AreLabelFiles};
 ghost use Rattle.gc_explain.specs.Explain as spec;
 
+use gc_circuit::Circuit;
 use gc_disk::{Cause, Reread};
+use gc_file::{Garbled, LabelFile, read_garbled, read_labels};
 use gc_order::Order;
 use std::alloc::Allocator;
+use std::convert::AsStr;
 
 /// An order that a fault has ended, and what explains the fault.
 #[derive(Drop)]
@@ -52,5 +59,52 @@ impl<A: Allocator + Copy, F: Reread> Ended<'_, A, F> {
             (λ bytes. GivesFile (F.bytes self.now.files.now name.now) bytes.items) }
     {
         self.files.read_again(self.alloc, name)
+    }
+    /// The circuit of the file of this name.
+    pub(crate) fn circuit_again(&self, name: &str) -> Option<Circuit<A>>
+        ensures { IfSome result (λ circuit.
+            IfSome (F.bytes self.now.files.now name.now) (λ held. IsCircuit held circuit)) }
+    {
+        let text = self.read_again(name)?;
+        match Circuit::read(self.alloc, &text) {
+            Ok(circuit) => Some(circuit),
+            Err(_) => None,
+        }
+    }
+
+    /// The garbled file of this name.
+    pub(crate) fn garbled_again(&self, name: &str) -> Option<Garbled<A>>
+        ensures { IfSome result (λ garbled.
+            IfSome (F.bytes self.now.files.now name.now) (λ held. IsGarbledFile held garbled)) }
+    {
+        let bytes = self.read_again(name)?;
+        match read_garbled(self.alloc, &bytes) {
+            Ok(garbled) => Some(garbled),
+            Err(_) => None,
+        }
+    }
+
+    /// The label files of these names.
+    pub(crate) fn labels_again<N: AsStr>(&self, names: &[N]) -> Option<Vec<LabelFile<A>, A>>
+        ensures { IfSome result (λ labels.
+            AreLabelFiles (F.bytes self.now.files.now) (map N.text names.now) labels.items) }
+    {
+        let mut labels = Vec::with_capacity(self.alloc, names.len()).ok()?;
+        for name in names {
+            labels.push(self.label_file_again(name.as_str())?).ok()?;
+        }
+        Some(labels)
+    }
+
+    /// The label file of this name.
+    pub(crate) fn label_file_again(&self, name: &str) -> Option<LabelFile<A>>
+        ensures { IfSome result (λ file.
+            IfSome (F.bytes self.now.files.now name.now) (λ held. IsLabelFile held file)) }
+    {
+        let bytes = self.read_again(name)?;
+        match read_labels(self.alloc, &bytes) {
+            Ok(file) => Some(file),
+            Err(_) => None,
+        }
     }
 }

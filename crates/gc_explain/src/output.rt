@@ -5,11 +5,7 @@ ghost use Rattle.std.specs.List.{slice_split};
 ghost use Rattle.sha2.specs.Sha256.{sha256};
 ghost use Rattle.gc_netlist.specs.Canon.{canonical_text};
 ghost use Rattle.gc_netlist.specs.Text.{tokens};
-ghost use Rattle.gc_file.specs.GarbledFile.{IsGarbledFile};
-ghost use Rattle.gc_file.specs.LabelFile.{IsLabelFile};
 ghost use Rattle.gc_order.specs.Order.{text_of};
-ghost use Rattle.gc_command.specs.CircuitFile.{IsCircuit};
-ghost use Rattle.gc_command.specs.Eval.{AreLabelFiles};
 ghost use Rattle.gc_explain.specs.Output.{HasEvaluationFault, IsJobPlace, IsOutputPlace, IsUnknownLine};
 
 use crate::ended::Ended;
@@ -17,7 +13,6 @@ use crate::sentence::{Explanation, file_place, line_place, on_file};
 use gc_circuit::Circuit;
 use gc_command::words_of_line;
 use gc_disk::Reread;
-use gc_file::{Garbled, LabelFile, read_garbled, read_labels};
 use gc_job::{EvalFault, Job, JobFiles, evaluate};
 use gc_order::{JobsOrder, Order};
 use std::alloc::{AllocError, Allocator};
@@ -80,18 +75,6 @@ impl<A: Allocator + Copy, F: Reread> Ended<'_, A, F> {
         None
     }
 
-    /// The circuit in the file of this name.
-    fn circuit_again(&self, name: &str) -> Option<Circuit<A>>
-        ensures { IfSome result (λ circuit.
-            IfSome (F.bytes self.now.files.now name.now) (λ held. IsCircuit held circuit)) }
-    {
-        let text = self.read_again(name)?;
-        match Circuit::read(self.alloc, &text) {
-            Ok(circuit) => Some(circuit),
-            Err(_) => None,
-        }
-    }
-
     /// The fault of evaluating the job that a line names. There is none where the line names no job, or one that is
     /// evaluated. The caller ensures that this is the digest of the circuit's canonical text.
     fn fault_of_line(
@@ -122,42 +105,6 @@ impl<A: Allocator + Copy, F: Reread> Ended<'_, A, F> {
         match evaluate(self.alloc, &job) {
             Ok(_) => None,
             Err(fault) => Some(fault),
-        }
-    }
-
-    /// The garbled file of this name.
-    fn garbled_again(&self, name: &str) -> Option<Garbled<A>>
-        ensures { IfSome result (λ garbled.
-            IfSome (F.bytes self.now.files.now name.now) (λ held. IsGarbledFile held garbled)) }
-    {
-        let bytes = self.read_again(name)?;
-        match read_garbled(self.alloc, &bytes) {
-            Ok(garbled) => Some(garbled),
-            Err(_) => None,
-        }
-    }
-
-    /// The label files of these names.
-    fn labels_again(&self, names: &[&str]) -> Option<Vec<LabelFile<A>, A>>
-        ensures { IfSome result (λ labels. AreLabelFiles (F.bytes self.now.files.now)
-            (map (λ name. name.now) names.now) labels.items) }
-    {
-        let mut labels = Vec::with_capacity(self.alloc, names.len()).ok()?;
-        for name in names {
-            labels.push(self.label_file_again(name)?).ok()?;
-        }
-        Some(labels)
-    }
-
-    /// The label file of this name.
-    fn label_file_again(&self, name: &str) -> Option<LabelFile<A>>
-        ensures { IfSome result (λ file.
-            IfSome (F.bytes self.now.files.now name.now) (λ held. IsLabelFile held file)) }
-    {
-        let bytes = self.read_again(name)?;
-        match read_labels(self.alloc, &bytes) {
-            Ok(file) => Some(file),
-            Err(_) => None,
         }
     }
 }

@@ -1,33 +1,31 @@
-use Rattle.std.proofs.Common.{map, string_bytes, rules, inl, inr, refl}
-use Rattle.gc_command.proofs.Names.{fun_ext, err_from_is_err_and, HasFailed, IsCircuit}
+use Rattle.std.proofs.Common.{rules}
+use Rattle.gc_command.proofs.Names.{ℕ, List, inr, refl, err_from_is_err_and, Netlist, FileBytes, Fault, IsCircuit, HasFilesFault}
+use Rattle.gc_disk.specs.Files.{GivesFile}
+use Rattle.gc_label.specs.Seed.{IsSeedText}
+use Rattle.gc_command.specs.declared.fault.Fault.TheVariants as faults
+use Rattle.gc_command.specs.Audit.{IsAuditFault}
 use Rattle.gc_command.proofs.AnswerLemmas.{found_where_known}
-use Rattle.gc_command.proofs.EvalLemmas.{eval-files}
-use Rattle.gc_command.proofs.AuditFaults.{files-fault}
+use Rattle.gc_command.proofs.EvalLemmas.{files-kind}
 use Rattle.gc_command.proofs.audit.read_input.Goals as goal
 
-pub returns-in_err-garbled-clause-fault : goal.returns-in_err-garbled-clause-fault
-returns-in_err-garbled-clause-fault g c =
-    let p = err_from_is_err_and c.from_residual-in_err-garbled.result
-    c.from_residual-in_err-garbled.ensures.1 in
-    let read : IsCircuit c.args.text.now c.in_ok-circuit.circuit = search rules in
-    rw (p.1, p.2, ← c.as_str.ensures.value, ← c.as_str-2.ensures.value)
-    (record {
-      has = files-fault (g.F.Files.bytes c.args.files.now)
-          (HasFailed (g.F.Files.failures c.args.files.now)
-          (g.F.Files.failures c.read_garbled_file.new.files))
-          (string_bytes c.args.order.now.circuit) c.as_str.result.now c.as_str-2.result.now
-          (map string_bytes c.args.order.now.labels.items) c.in_ok-circuit.circuit
-          (found_where_known (λ held. IsCircuit held c.in_ok-circuit.circuit) _ _ c.requires read)
-          (c.in_ok-seed.ensures.accepts.0 refl) _ (inl c.in_err-garbled.ensures.fault);
-    })
+-- A fault of the garbled file and the label files is one of `audit`.
+files-fault : {bytes : FileBytes} {Failed : List ℕ → Type 0} {circuit seed garbled text : List ℕ}
+    {labels : List (List ℕ)} {c : Netlist} → GivesFile (bytes circuit) text → IsCircuit text c
+    → IsSeedText seed → (fault : Fault) → HasFilesFault bytes Failed garbled labels fault
+    → IsAuditFault bytes Failed circuit seed garbled labels fault
+files-fault {c = c} given read accepted (faults.File fault) is =
+    record { has = (c, found_where_known (λ held. IsCircuit held c) _ _ given read, accepted, is) }
+files-fault {c = c} given read accepted faults.CannotRead is =
+    record { has = inr (c, found_where_known (λ held. IsCircuit held c) _ _ given read, accepted, is) }
+files-fault given read accepted faults.Memory is = record { has = tt }
+files-fault {bytes = bytes} {Failed = Failed} {garbled = garbled} {labels = labels} given read accepted fault is =
+    absurd (files-kind bytes Failed garbled labels fault is)
 
-pub returns-in_err-labels-clause-fault : goal.returns-in_err-labels-clause-fault
-returns-in_err-labels-clause-fault g c =
-    let p = err_from_is_err_and c.from_residual-in_err-labels.result
-    c.from_residual-in_err-labels.ensures.1 in
+pub returns-in_err-given-clause-fault : goal.returns-in_err-given-clause-fault
+returns-in_err-given-clause-fault g c =
+    let p = err_from_is_err_and c.from_residual-in_err-given.result
+    c.from_residual-in_err-given.ensures.1 in
     let read : IsCircuit c.args.text.now c.in_ok-circuit.circuit = search rules in
-    let fault = rw (fun_ext c.read_garbled_file.ensures.same, c.in_ok-garbled.ensures.counted)
-    at c.in_err-labels.ensures.fault in
     rw (
       p.1,
       p.2,
@@ -35,16 +33,8 @@ returns-in_err-labels-clause-fault g c =
       ← c.as_str-2.ensures.value,
       ← c.deref.ensures.value,
     )
-    (record {
-      has = files-fault (g.F.Files.bytes c.args.files.now)
-          (HasFailed (g.F.Files.failures c.args.files.now)
-          (g.F.Files.failures c.read_label_files.new.files))
-          (string_bytes c.args.order.now.circuit) c.as_str.result.now c.as_str-2.result.now
-          (map string_bytes c.deref.result.now) c.in_ok-circuit.circuit
-          (found_where_known (λ held. IsCircuit held c.in_ok-circuit.circuit) _ _ c.requires read)
-          (c.in_ok-seed.ensures.accepts.0 refl) _
-          (inr (c.in_ok-garbled.garbled, c.in_ok-garbled.ensures.garbled, fault));
-    })
+    (files-fault c.requires read (c.in_ok-seed.ensures.accepts.0 refl) _
+    c.in_err-given.ensures.fault)
 
 pub returns-clause-seed : goal.returns-clause-seed
 returns-clause-seed g c =
@@ -57,6 +47,8 @@ pub returns-clause-read : goal.returns-clause-read
 returns-clause-read g c =
     let read : IsCircuit c.args.text.now c.in_ok-circuit.circuit = search rules in
     rw (← c.as_str-2.ensures.value, ← c.deref.ensures.value)
-    (eval-files (λ n. refl) c.read_garbled_file.ensures.same
-    (found_where_known (λ held. IsCircuit held c.in_ok-circuit.circuit) _ _ c.requires read)
-    c.in_ok-garbled.ensures.garbled c.in_ok-labels.ensures.labels)
+    (record {
+      circuit_read =
+          found_where_known (λ held. IsCircuit held c.in_ok-circuit.circuit) _ _ c.requires read;
+      given = c.in_ok-given.ensures.given;
+    })

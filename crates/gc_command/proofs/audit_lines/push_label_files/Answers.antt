@@ -10,11 +10,11 @@ loop-file-init g c = ([], none, sym (append-nil c.args.lines.now.items))
 pub loop-file-preserved : goal.loop-file-preserved
 loop-file-preserved g c =
     let file = c.file-item.result in
-    let line = verdict_line file.index c.in_ok-verdict.verdict in
+    let line = verdict_line file.index c.in-Ok.verdict in
     let before = c.loop-file.invariant in (
       before.0 ++ line,
       rw c.is_dealt-all_dealt.ensures (found_more _ _ c.as_slice-files.result.now c.loop-file.file-index file
-          _ _ _ c.loop-file-test.true c.file-item.is before.1 c.in_ok-verdict.ensures.verdict),
+          _ _ _ c.loop-file-test.true c.file-item.is before.1 c.in-Ok.ensures.verdict),
       rw (c.in_ok-push_verdict.ensures, c.index.ensures, before.2)
           (append_assoc c.args.lines.now.items before.0 line),
     )

@@ -4,7 +4,7 @@ use Rattle.sha2.specs.Sha256.{sha256}
 use Rattle.gc_command.specs.Eval.{IsEvalFault}
 use Rattle.gc_job.proofs.BindLemmas.{other_digest, same_digest}
 use Rattle.gc_command.proofs.Names.{◌≡◌, map, string_bytes, sym, ap₂, ◌∙◌, fun_ext, err_from_is_err_and, canonical_text, AreFew, DecodeTo, HasJobFault, IsLawful, HasFailed, AreEvalFiles, ap, output_lines, other_circuit}
-use Rattle.gc_command.proofs.AnswerLemmas.{length-decoded, matched-ok, matched-err}
+use Rattle.gc_command.proofs.AnswerLemmas.{length-decoded}
 use Rattle.gc_command.proofs.EvalLemmas.{job-fault}
 use Rattle.gc_command.proofs.eval.eval.Goals as goal
 
@@ -68,7 +68,7 @@ returns-in_err-outputs-clause-fault g c =
     (string_bytes c.args.order.now.circuit) (string_bytes c.args.order.now.garbled)
     c.args.order.now.workers (map string_bytes c.args.order.now.labels.items)
     _ _ _ (rw (fun_ext c.read.ensures.same) at input) _
-    (matched-err _ _ _ _ (outcome (sym named ∙ sym same ∙ digest)) c.in_err-outputs.was))
+    (rw c.in_err-outputs.was at (outcome (sym named ∙ sym same ∙ digest))))
 
 pub output_lines-requires : goal.output_lines-requires
 output_lines-requires g c =
@@ -85,7 +85,7 @@ output_lines-requires g c =
     c.in_ok-circuit.ensures.digest in
     let same = same_digest _ _ _ c.ne.ensures c.if-ne.false in
     let outputs =
-    matched-ok _ _ _ _ (outcome (sym named ∙ sym same ∙ digest)) c.in_ok-outputs.was in
+    rw c.in_ok-outputs.was at (outcome (sym named ∙ sym same ∙ digest)) in
     rw (c.output_widths.ensures, c.deref.ensures.value)
     (length-decoded _ lawful _ _ c.in_ok-outputs.outputs.items outputs.1)
 
@@ -107,7 +107,7 @@ returns-clause-answers g c =
     c.in_ok-circuit.ensures.digest in
     let same = same_digest _ _ _ c.ne.ensures c.if-ne.false in
     let outputs =
-    matched-ok _ _ _ _ (outcome (sym named ∙ sym same ∙ digest)) c.in_ok-outputs.was in
+    rw c.in_ok-outputs.was at (outcome (sym named ∙ sym same ∙ digest)) in
     rw (← c.by_flag-form.ensures)
     (record {
       c = c.in_ok-circuit.circuit;

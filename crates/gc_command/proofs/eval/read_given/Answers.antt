@@ -1,22 +1,9 @@
-use Rattle.gc_command.proofs.Names.{fun_ext, inr, err_from_is_err_and}
 use Rattle.gc_command.proofs.eval.read_given.Goals as goal
-
-pub returns-in_err-labels-clause-fault : goal.returns-in_err-labels-clause-fault
-returns-in_err-labels-clause-fault g c =
-    let p = err_from_is_err_and c.from_residual-in_err-labels.result
-    c.from_residual-in_err-labels.ensures.1 in
-    rw (p.1, p.2, ← c.as_str.ensures.value, ← c.deref.ensures.value)
-    (inr (
-      _,
-      c.in_ok-garbled.ensures.garbled,
-      rw (fun_ext c.read_garbled_file.ensures.same, c.in_ok-garbled.ensures.counted)
-          at c.in_err-labels.ensures.fault,
-    ))
 
 pub returns-clause-given : goal.returns-clause-given
 returns-clause-given g c =
-    rw (← c.as_str.ensures.value, ← c.deref.ensures.value)
-    (record {
-      garbled_read = c.in_ok-garbled.ensures.garbled;
-      labels_read = rw (fun_ext c.read_garbled_file.ensures.same) at c.in_ok-labels.ensures.labels;
-    })
+    rw (← c.as_str.ensures.value, ← c.deref.ensures.value) c.read_named.ensures.given
+
+pub returns-clause-fault : goal.returns-clause-fault
+returns-clause-fault g c =
+    rw (← c.as_str.ensures.value, ← c.deref.ensures.value) c.read_named.ensures.fault

@@ -4,8 +4,8 @@ use Rattle.std.proofs.Common.{of_calls}
 use Rattle.gc_disk.specs.Files.{GivesFile}
 use Rattle.gc_half.specs.Garbling.{IsGarbled}
 use Rattle.gc_work.specs.WorkFault.{JudgesWorkers}
-use Rattle.gc_command.specs.Garble.{IsGarbleInput}
-use Rattle.gc_command.proofs.AnswerLemmas.{IfSome-map, found_where_known}
+use Rattle.gc_command.specs.Garble.{IsGarbleInput, HasGarbleFault}
+use Rattle.gc_command.proofs.AnswerLemmas.{found_where_known}
 use Rattle.gc_command.proofs.WroteLemmas.{IfSome-both, garble-unwritten}
 use Rattle.gc_command.proofs.garble.garble.Goals as goal
 
@@ -60,12 +60,9 @@ returns-clause-fault g c =
     let few : AreFew c.args.order.now.workers = rw c.in_ok-garbling.was at judged in
     rw (← c.as_str.ensures.value)
     (IfErr-weaker c.write_garbling.result _ _
-    (λ fault unwritten. IfSome-map held
-    (λ bytes. IsGarbleInput bytes seed c.in_ok-circuit.circuit made.0) _
-    (λ bytes input. garble-unwritten bytes seed c.args.order.now.workers c.in_ok-circuit.circuit
-    made.0 input few fault unwritten)
-    (found_where_known (λ bytes. IsGarbleInput bytes seed c.in_ok-circuit.circuit made.0) held text
-    given read))
+    (λ fault unwritten. found_where_known (λ bytes. HasGarbleFault bytes seed c.args.order.now.workers fault) held text
+    given (garble-unwritten text seed c.args.order.now.workers c.in_ok-circuit.circuit made.0 read few
+    fault unwritten))
     c.write_garbling.ensures.fault)
 
 pub returns-clause-unwritten : goal.returns-clause-unwritten

@@ -1,6 +1,6 @@
 use Rattle.gc_command.proofs.Names.{map, ap₂, ◌∙◌, IsCircuit, output_lines}
 use Rattle.std.proofs.lemmas.List.Folds.{flat_map-map}
-use Rattle.gc_command.proofs.AnswerLemmas.{IfSome-map, map_err-ok, length-outputs}
+use Rattle.gc_command.proofs.AnswerLemmas.{IfSome-map, length-outputs}
 use Rattle.gc_command.proofs.ValuesLemmas.{SpellValues-widths}
 use Rattle.gc_command.proofs.plain.plain.Goals as goal
 
@@ -11,16 +11,13 @@ plain_eval-requires g c =
 
 pub output_lines-requires : goal.output_lines-requires
 output_lines-requires g c =
-    let are = map_err-ok c.plain_eval.result c.map_err.result _ _ c.in_ok-outputs.outputs
-    c.map_err.ensures.cases c.map_err.ensures.variant c.plain_eval.ensures c.in_ok-outputs.was in
-    rw (c.output_widths.ensures, c.deref-3.ensures.value) (length-outputs _ _ _ are)
+    rw (c.output_widths.ensures, c.deref-3.ensures.value)
+    (length-outputs _ _ _ c.in_ok-outputs.ensures)
 
 pub returns-clause-answers : goal.returns-clause-answers
 returns-clause-answers g c =
     rw (← c.as_str-name.ensures.value, ← c.deref.ensures.value, ← c.by_flag-form.ensures)
-    (let are = map_err-ok c.plain_eval.result c.map_err.result _ _ c.in_ok-outputs.outputs
-    c.map_err.ensures.cases c.map_err.ensures.variant c.plain_eval.ensures c.in_ok-outputs.was in
-    IfSome-map (g.F.Files.bytes c.args.files.now c.as_str-name.result.now)
+    (IfSome-map (g.F.Files.bytes c.args.files.now c.as_str-name.result.now)
     (λ bytes. IsCircuit bytes c.in_ok-circuit.circuit) _
     (λ bytes circuit. record {
       circuit = c.in_ok-circuit.circuit;
@@ -28,7 +25,7 @@ returns-clause-answers g c =
       values = map (λ value. value.items) c.in_ok-values.values.items;
       spelled = rw c.input_widths.ensures at c.in_ok-values.ensures.spelled;
       outputs = c.in_ok-outputs.outputs.items;
-      computed = rw (flat_map-map, ← c.deref-2.ensures.value) are;
+      computed = rw (flat_map-map, ← c.deref-2.ensures.value) c.in_ok-outputs.ensures;
       printed = c.in_ok-output_lines.ensures
           ∙ ap₂ (output_lines c.by_flag-form.result) c.output_widths.ensures
           c.deref-3.ensures.value;

@@ -12,8 +12,7 @@ returns g c = (
       labels = _;
       names = parted c.deref.ensures.value c.in-Some.ensures.cases.0 (λ word. word.now)
           c.in-Ok.ensures;
-      garbled_read = c.in_ok-garbled.ensures;
-      labels_read = c.in_ok-labels.ensures;
+      given = record { garbled_read = c.in_ok-garbled.ensures; labels_read = c.in_ok-labels.ensures };
     };
     bound = rw c.deref-2.ensures.value at (c.in-Ok-bind_by_digest.ensures.ok c.requires);
   },

@@ -7,6 +7,6 @@ use Rattle.gc_explain.proofs.ended.Ended.labels_again.Given as goal
 abbrev pub invariant-loop-name : goal.invariant-loop-name
 invariant-loop-name g l =
     let bytes = g.F.Files.bytes l.self.files.now in
-    let rest = map (λ name. name.now) (drop l.name-index l.names) in
-    (left : List LabelFileParts) → AreLabelFiles bytes rest left
-    → AreLabelFiles bytes (map (λ name. name.now) l.names) (l.labels.items ++ left)
+    let text = g.N.AsStr.text in
+    (left : List LabelFileParts) → AreLabelFiles bytes (map text (drop l.name-index l.names)) left
+    → AreLabelFiles bytes (map text l.names) (l.labels.items ++ left)

@@ -1,0 +1,38 @@
+use Rattle.std.proofs.Common.{rules, ⊎_elim, inl, inr, arith, refl}
+use Rattle.clap.specs.Words.{kind_of}
+use Rattle.gc_order.specs.Order.{text_of}
+use Rattle.gc_command.specs.declared.fault.Fault.TheVariants.{CannotWrite}
+use Rattle.gc_cli.proofs.MistakeLemmas.{IsMistaken-other_kind}
+use Rattle.gc_cli.proofs.program.serve_asked.Goals as goal
+
+pub returns-in-Ok-clause-fault : goal.returns-in-Ok-clause-fault
+returns-in-Ok-clause-fault g c = λ _ words old new is.
+    let read = rw c.in-Ok.is at is in (
+      c.in-Err-print_answer.fault,
+      (
+        inl (
+          text_of c.in-Ok.asked.order,
+          read.0,
+          rw c.report_order.ensures.same c.in-Err-print_answer.ensures.fault,
+        ),
+        (
+          c.report_order.ensures.printed.0,
+          c.report_order.ensures.printed.1,
+          inr (text_of c.in-Ok.asked.order, read.0, rw (← read.1) c.report_order.ensures.printed.2),
+        ),
+      ),
+    )
+
+-- The words have a fault that asks for no text, or memory ran out.
+pub returns-clause-usage : goal.returns-clause-usage
+returns-clause-usage g c = λ _ words old new is.
+    let other = c.use_stderr.ensures.0 c.if-not-use_stderr.false in
+    ⊎_elim
+    (λ listed.
+    inl (IsMistaken-other_kind words (kind_of c.in-Err.help) listed.0 other.0 other.1))
+    (λ short. inr (omega (arith, short.1)))
+    (rw c.in-Err.is at is)
+
+pub returns-in-Err-clause-fault : goal.returns-in-Err-clause-fault
+returns-in-Err-clause-fault g c = λ _ words old new is.
+    (CannotWrite, (search rules, (_, c.report.ensures.printed, inl refl)))
