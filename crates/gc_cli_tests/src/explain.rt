@@ -126,15 +126,12 @@ fn assert_ends<R: Threads + Wait + Sync>(
     line: &str,
 ) -> Result<(), Fail> {
     let mut files = MemFiles::new(alloc, &XOR_FILES);
-    let fault = match (Trial { rt, alloc, words }).result(alloc, &mut files)? {
-        Ok(_) => return Err(Fail::new("there is no fault")),
-        Err(fault) => fault,
-    };
+    let fault = Trial { rt, alloc, words }.fault(alloc, &mut files)?;
     let explained = Explained {
         alloc,
         words,
         files: &files,
-        fault,
+        fault: fault.ok_or("there is no fault")?,
         line,
     };
     explained.assert()
@@ -148,21 +145,19 @@ fn each_growth_refused(rt: HostRuntime) -> Result<(), Fail> {
     Ok(())
 }
 
-/// The faults of memory, each of which has the same line.
-const MEMORY: [Fault; 7] = [
-    Fault::Circuit(ReadFault::Memory),
-    Fault::Value(ValueFault::Memory),
-    Fault::Garbling(WorkFault::Memory),
-    Fault::File(FileFault::Memory),
-    Fault::Binding(BindFault::Memory),
-    Fault::Evaluation(EvalFault::Memory),
-    Fault::Memory,
-];
-
+/// Each fault of memory has the same line.
 #[test]
 fn want_of_memory(rt: HostRuntime) -> Result<(), Fail> {
     let files = MemFiles::new(rt.alloc(), &[]);
-    for fault in MEMORY {
+    for fault in [
+        Fault::Circuit(ReadFault::Memory),
+        Fault::Value(ValueFault::Memory),
+        Fault::Garbling(WorkFault::Memory),
+        Fault::File(FileFault::Memory),
+        Fault::Binding(BindFault::Memory),
+        Fault::Evaluation(EvalFault::Memory),
+        Fault::Memory,
+    ] {
         let explained = Explained {
             alloc: rt.alloc(),
             words: &["check", "c.txt"],

@@ -42,7 +42,7 @@ fn opened<R: Threads + Wait + Sync>(
     let mut files = MemFiles::new(alloc, &held);
     let words = &["jobs", "c.txt", "list"];
     let trial = Trial { rt, alloc, words };
-    let fault = trial.result(alloc, &mut files)?.err();
+    let fault = trial.fault(alloc, &mut files)?;
     Ok((fault, files.log().opened()))
 }
 
@@ -66,26 +66,30 @@ fn is_first_or_memory(fault: Option<Fault>) -> bool {
     }
 }
 
-/// With each growth refused a list has its first fault, or one of memory.
-fn assert_first<R: Threads + Wait + Sync>(
-    rt: &R,
-    alloc: Global,
-    words: &[&str],
-) -> Result<(), Fail> {
-    for growth in 1..1000 {
-        let heap = Refusing::nth(alloc, growth);
-        let mut files = MemFiles::new(alloc, &XOR_FILES);
-        let trial = Trial { rt, alloc, words };
-        let fault = trial.result(&heap, &mut files)?.err();
-        if heap.refused() == 0 {
-            return equal(fault, Some(Fault::File(FileFault::BadTrailer)));
-        }
-        equal((fault, is_first_or_memory(fault)), (fault, true))?;
+impl<R: Threads + Wait + Sync> Trial<'_, R> {
+    /// The fault of the order where the growth of this number is refused, and whether it was.
+    fn fault_without(&self, growth: u64) -> Result<(bool, Option<Fault>), Fail> {
+        let heap = Refusing::nth(self.alloc, growth);
+        let mut files = MemFiles::new(self.alloc, &XOR_FILES);
+        let fault = self.fault(&heap, &mut files)?;
+        Ok((heap.refused() != 0, fault))
     }
-    Err(Fail::new("each run met a refusal"))
+
+    /// Asserts that with each growth refused the list has its first fault, or one of memory.
+    fn assert_first(&self) -> Result<(), Fail> {
+        for growth in 1..1000 {
+            let (is_refused, fault) = self.fault_without(growth)?;
+            if !is_refused {
+                return equal(fault, Some(Fault::File(FileFault::BadTrailer)));
+            }
+            equal((fault, is_first_or_memory(fault)), (fault, true))?;
+        }
+        Err(Fail::new("each run met a refusal"))
+    }
 }
 
 #[test]
 fn each_growth_refused_before_a_fault(rt: HostRuntime) -> Result<(), Fail> {
-    assert_first(&rt, rt.alloc(), &["jobs", "c.txt", "two bad"])
+    let (rt, alloc, words) = (&rt, rt.alloc(), &["jobs", "c.txt", "two bad"]);
+    Trial { rt, alloc, words }.assert_first()
 }

@@ -17,8 +17,7 @@ use std::thread::Threads;
 type Steps = &'static [&'static str];
 
 /// Orders, and the steps of their work.
-static ORDERS: [(&[&str], Steps); 7] = [
-    (&["check", "c.txt"], &["1 of 1: reading the circuit"]),
+static ORDERS: [(&[&str], Steps); 5] = [
     (
         &["run", "c.txt", SEED, "1", "0"],
         &[
@@ -41,14 +40,6 @@ static ORDERS: [(&[&str], Steps); 7] = [
             "1 of 3: reading the circuit",
             "2 of 3: reading the files",
             "3 of 3: evaluating 1 gates",
-        ],
-    ),
-    (
-        &["jobs", "c.txt", "list"],
-        &[
-            "1 of 3: reading the circuit",
-            "2 of 3: reading job 1 of 1",
-            "3 of 3: evaluating 1 jobs",
         ],
     ),
     (&["jobs", "c.txt", "nine"], NINE_JOBS),

@@ -2,7 +2,7 @@
 //! use the same memory. After a refusal the same order over the same files is carried out.
 
 use crate::files::XOR_FILES;
-use crate::jobs::{Outcome, Trial, assert_printed};
+use crate::jobs::Trial;
 use gc_circuit::Circuit;
 use gc_command::Fault;
 use gc_file::Version;
@@ -16,56 +16,48 @@ use std::sync::Wait;
 use std::test::Fail;
 use std::thread::Threads;
 
-/// Orders over 32 chains of 32 AND gates, which two workers can share, what each prints, and how many growths are of
-/// the file that it writes: the sink takes 32,881 bytes in three, or 528 in one, and then the file has a name.
-static ORDERS: [(&[&str], &str, u32); 5] = [
-    (
-        &["garble", "c.txt", SEED, "out", "--workers", "2"],
-        "wrote 32881\n",
-        4,
-    ),
-    (
-        &["deal", "c.txt", SEED, "0", "xffffffff", "out"],
-        "wrote 528\n",
-        2,
-    ),
-    (&["eval", "c.txt", "g", "l"], "1\n", 0),
-    (&["eval", "c.txt", "g", "l", "--workers", "2"], "1\n", 0),
-    (&["jobs", "c.txt", "list", "--workers", "2"], "1\n\n", 0),
+/// Orders over 32 chains of 32 AND gates, which two workers can share, and how many growths are of the file that each
+/// writes: the sink takes 32,881 bytes in three, or 528 in one, and then the file has a name.
+static ORDERS: [(&[&str], u32); 5] = [
+    (&["garble", "c.txt", SEED, "out", "--workers", "2"], 4),
+    (&["deal", "c.txt", SEED, "0", "xffffffff", "out"], 2),
+    (&["eval", "c.txt", "g", "l"], 0),
+    (&["eval", "c.txt", "g", "l", "--workers", "2"], 0),
+    (&["jobs", "c.txt", "list", "--workers", "2"], 0),
 ];
 
 /// The faults of memory: those of circuits and values, garbling, files that are read, evaluation, and the program.
 const MEMORY: [u32; 5] = [13, 23, 36, 46, 52];
 
 impl<R: Threads + Wait + Sync> Trial<'_, R> {
-    /// What comes of the order where the growth of this number is refused. After a fault the same order prints its
-    /// lines.
-    fn outcome(
+    /// The fault of the order where the growth of this number is refused, and whether it was. After a fault the same
+    /// order has none.
+    fn fault_at(
         &self,
         files: &[(&str, &[u8])],
-        printed: &str,
         growth: u64,
-    ) -> Result<Outcome, Fail> {
+    ) -> Result<(bool, Option<Fault>), Fail> {
         let heap = Refusing::nth(self.alloc, growth);
         let mut held = MemFiles::new(&heap, files);
-        let outcome = self.outcome_of_refusal(&heap, &mut held, printed)?;
-        if let Outcome::Ended(_) = outcome {
-            let answer = self.result(&heap, &mut held)??;
-            assert_printed(self.alloc, answer, printed)?;
+        let fault = self.fault_of_refusal(&heap, &mut held)?;
+        let is_refused = heap.refused() != 0;
+        if fault.is_some() {
+            let again = self.fault(&heap, &mut held)?;
+            equal((fault, again), (fault, None))?;
         }
-        Ok(outcome)
+        Ok((is_refused, fault))
     }
 
     /// Carries out the order with growth 1, 2, 3, .. refused, until a run meets no refusal. It returns how many runs
-    /// couldn't write the file; all others printed their lines, or had a fault of memory.
-    fn unwritten_runs(&self, files: &[(&str, &[u8])], printed: &str) -> Result<u32, Fail> {
+    /// couldn't write the file; all others had no fault, or one of memory.
+    fn unwritten_runs(&self, files: &[(&str, &[u8])]) -> Result<u32, Fail> {
         let mut unwritten = 0u32;
         for growth in 1..1000 {
-            match self.outcome(files, printed, growth)? {
-                Outcome::Unrefused => return Ok(unwritten),
-                Outcome::Printed => {}
-                Outcome::Ended(Fault::CannotWrite) => unwritten = unwritten.saturating_add(1),
-                Outcome::Ended(fault) => of_memory(fault)?,
+            match self.fault_at(files, growth)? {
+                (false, _) => return Ok(unwritten),
+                (true, None) => {}
+                (true, Some(Fault::CannotWrite)) => unwritten = unwritten.saturating_add(1),
+                (true, Some(fault)) => of_memory(fault)?,
             }
         }
         Err(Fail::new("each run met a refusal"))
@@ -83,9 +75,9 @@ fn assert_orders<R: Threads + Wait + Sync>(
     alloc: Global,
     files: &[(&str, &[u8])],
 ) -> Result<(), Fail> {
-    for (words, printed, growths) in &ORDERS {
-        let unwritten = Trial { rt, alloc, words }.unwritten_runs(files, printed)?;
-        equal((*printed, unwritten), (*printed, *growths))?;
+    for (words, growths) in &ORDERS {
+        let unwritten = Trial { rt, alloc, words }.unwritten_runs(files)?;
+        equal((*words, unwritten), (*words, *growths))?;
     }
     Ok(())
 }
@@ -115,7 +107,6 @@ fn by_two_workers(rt: HostRuntime) -> Result<(), Fail> {
 #[test]
 fn of_a_list(rt: HostRuntime) -> Result<(), Fail> {
     let (rt, alloc, words) = (&rt, rt.alloc(), &["jobs", "c.txt", "nine"]);
-    let printed = "1\n\n1\n\n1\n\n1\n\n1\n\n1\n\n1\n\n1\n\n1\n\n";
-    let unwritten = Trial { rt, alloc, words }.unwritten_runs(&XOR_FILES, printed)?;
+    let unwritten = Trial { rt, alloc, words }.unwritten_runs(&XOR_FILES)?;
     equal(unwritten, 0)
 }

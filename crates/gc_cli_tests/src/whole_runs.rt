@@ -5,7 +5,7 @@ use crate::jobs::command_line;
 use gc_cli::{Console, DISHONEST, DONE, FAULT, Heap, Output, USAGE, serve};
 use gc_command::Silent;
 use gc_fixtures::MemFiles;
-use gc_fixtures::circuits::{ADDER_LINES, SEED};
+use gc_fixtures::circuits::SEED;
 use gc_fixtures::compare::equal;
 use std::alloc::Global;
 use std::str;
@@ -131,6 +131,12 @@ For more information, try '--help'.\n",
         None,
     ),
 ];
+
+/// What `check` prints of the full adder.
+const ADDER_LINES: &str = concat!(
+    "gates 5\nwires 8\nand 1\ninputs 3 1 1 1\noutputs 1 2\n",
+    "digest c07940d5ed062a112dc9abe072fab1395a72f675da449ef95ea0515ec8df7c76\n",
+);
 
 /// Another seed than that of the files.
 const OTHER_SEED: &str = "0100000000000000000000000000000000000000000000000000000000000000";

@@ -1,15 +1,15 @@
 //! Each growth refused in turn of the opening of banks and of the evaluation of a list of jobs.
 
 use crate::fixtures::{on_three_jobs, on_two_jobs};
-use crate::jobs::{one_after_another, together};
+use crate::jobs::together;
 use gc_bank::{Banks, evaluate_jobs};
 use gc_fixtures::circuits::many_ands;
 use gc_fixtures::compare::equal;
-use gc_fixtures::growths::{Answer, Met, plain_if, refusals_met};
+use gc_fixtures::growths::{Answer, Met, answer_of, refusals_met};
 use gc_fixtures::refusing::Refusing;
 use gc_job::{EvalFault, Job};
 use gc_workers::{Open, OpenFault};
-use std::alloc::{Allocator, Global};
+use std::alloc::Allocator;
 use std::sync::Wait;
 use std::test::Fail;
 use std::thread::Threads;
@@ -42,36 +42,19 @@ fn opening(rt: HostRuntime) -> Result<(), Fail> {
     })
 }
 
-/// Whether two results have the same bits.
-fn same(one: &[Vec<bool, &Refusing<Global>>], other: &[Vec<bool>]) -> bool {
-    one.len() == other.len()
-        && one
-            .iter()
-            .zip(other)
-            .all(|(a, b)| a.as_slice() == b.as_slice())
-}
-
-/// What came of an evaluation that returns these bits with ample memory.
-fn answer_of_all(
-    found: Result<Vec<Vec<bool, &Refusing<Global>>, &Refusing<Global>>, EvalFault>,
-    wanted: &[Vec<bool>],
-) -> Answer {
-    match found {
-        Ok(all) => plain_if(same(&all, wanted)),
-        Err(EvalFault::Memory) => Answer::Memory,
-        Err(_) => Answer::Other,
-    }
-}
-
 /// The runs of this many workers that meet a refused growth.
 fn refused_runs<R: AllocGlobal + Threads + Wait + Sync>(
     rt: &R,
     jobs: &[Job],
     workers: u32,
 ) -> Result<Met, Fail> {
-    let plain = one_after_another(rt.alloc(), jobs)?;
     let met = refusals_met(rt.alloc(), |heap| match together(jobs) {
-        Some(jobs) => answer_of_all(evaluate_jobs(rt, heap, jobs, workers, &Open), &plain),
+        Some(jobs) => {
+            answer_of(
+                evaluate_jobs(rt, heap, jobs, workers, &Open),
+                EvalFault::Memory,
+            )
+        }
         None => Answer::Other,
     })?;
     Ok(met)

@@ -1,12 +1,11 @@
-//! Tests of banks: what the calls of two seats that take turns return, and that none of them allocates.
+//! Tests of banks: what the calls of two seats that take turns return, and that no call of opened banks allocates.
 
 ghost use Rattle.std.specs.Prelude.{◌≡◌, ◌<◌, length, All, IfOk};
 ghost use Rattle.gc_bank.specs.Seats.{IsSeatOf, IsInside, InRound, view, jobs_on};
 
-use crate::boards::one_seat;
 use crate::fixtures::on_three_jobs;
 use crate::jobs::together;
-use gc_bank::{BankSeat, Banks, one_circuit};
+use gc_bank::{BankSeat, Banks};
 use gc_circuit::Circuit;
 use gc_fixtures::compare::equal;
 use gc_fixtures::refusing::Refusing;
@@ -36,7 +35,7 @@ enum Reply {
     Answer(Answer),
     Label(Option<Label>),
     Nothing,
-    Reopening(Reopening),
+    Bank(Reopening),
     /// The seat may not make the call where it is.
     Barred,
 }
@@ -88,7 +87,7 @@ fn called<B: Allocator>(
             Reply::Entry(banks.enter(seat, round))
         }
         (None, Call::Reopen(round)) if (round as usize) + 2 < jobs.len() => {
-            Reply::Reopening(banks.reopen(seat, round))
+            Reply::Bank(banks.reopen(seat, round))
         }
         _ => Reply::Barred,
     }
@@ -120,63 +119,40 @@ fn two_seats<'j, 'c, B: Allocator + Copy>(
     Ok((banks, TwoSeats { one, two }))
 }
 
-/// The label that a board for the job alone makes of gate 0.
-fn first_gate(alloc: Global, job: &Job) -> Result<Label, Fail> {
-    let (board, mut seat) = one_seat(alloc, job)?;
-    if job.circuit().gates() == 0 {
-        return Err(Fail::new("there is a gate"));
+/// The label that gate 0 of the full adder sets, which reads the input wires 0 and 2.
+fn first_gate(job: &Job) -> Result<Label, Fail> {
+    if job.circuit().gates() == 0 || job.circuit().input_wires() != 3 {
+        return Err(Fail::new("the job is of the full adder"));
     }
-    let Answer::Made(label) = board.step(&mut seat, 0) else {
-        return Err(Fail::new("gate 0 is free"));
-    };
-    Ok(label)
+    Ok(job.active(0, job.input(0), job.input(2)))
 }
 
-/// Which of two seats makes a call.
-#[derive(Clone, Copy)]
-enum Who {
-    One,
-    Two,
-}
-
-/// The calls that two seats make in turn at banks for these three jobs, and the replies. A bank goes to its next round
-/// when its round is sealed and nobody is inside.
-fn script(alloc: Global, jobs: &[Job]) -> Result<[(Who, Call, Reply); 18], Fail>
+/// The calls that two seats, 1 and 2, make in turn at banks for these three jobs, and the replies. A bank goes to its
+/// next round when its round is sealed and nobody is inside.
+fn script(jobs: &[Job]) -> Result<[(u32, Call, Reply); 18], Fail>
     requires { length jobs.now ≡ 3 }
 {
-    let early = first_gate(alloc, &jobs[0])?;
-    let late = first_gate(alloc, &jobs[2])?;
+    let early = first_gate(&jobs[0])?;
+    let late = first_gate(&jobs[2])?;
     Ok([
-        (Who::One, Call::Enter(0), Reply::Entry(Entry::Inside)),
-        (Who::One, Call::Step(0), Reply::Answer(Answer::Made(early))),
-        (Who::One, Call::Step(0), Reply::Answer(Answer::Done(early))),
-        (Who::One, Call::Label(3), Reply::Label(Some(early))),
-        (Who::One, Call::Label(4), Reply::Label(None)),
-        (Who::Two, Call::Enter(2), Reply::Entry(Entry::OtherRound(0))),
-        (
-            Who::Two,
-            Call::Reopen(0),
-            Reply::Reopening(Reopening::NotSealed),
-        ),
-        (Who::One, Call::Seal, Reply::Nothing),
-        (Who::Two, Call::Enter(0), Reply::Entry(Entry::Shut)),
-        (Who::Two, Call::Reopen(0), Reply::Reopening(Reopening::Busy)),
-        (Who::One, Call::Leave, Reply::Nothing),
-        (
-            Who::Two,
-            Call::Reopen(0),
-            Reply::Reopening(Reopening::Given),
-        ),
-        (Who::One, Call::Enter(0), Reply::Entry(Entry::OtherRound(2))),
-        (Who::One, Call::Enter(2), Reply::Entry(Entry::Inside)),
-        (Who::One, Call::Step(0), Reply::Answer(Answer::Made(late))),
-        (Who::One, Call::Seal, Reply::Nothing),
-        (Who::One, Call::Leave, Reply::Nothing),
-        (
-            Who::Two,
-            Call::Reopen(0),
-            Reply::Reopening(Reopening::OtherRound(2)),
-        ),
+        (1, Call::Enter(0), Reply::Entry(Entry::Inside)),
+        (1, Call::Step(0), Reply::Answer(Answer::Made(early))),
+        (1, Call::Step(0), Reply::Answer(Answer::Done(early))),
+        (1, Call::Label(3), Reply::Label(Some(early))),
+        (1, Call::Label(4), Reply::Label(None)),
+        (2, Call::Enter(2), Reply::Entry(Entry::OtherRound(0))),
+        (2, Call::Reopen(0), Reply::Bank(Reopening::NotSealed)),
+        (1, Call::Seal, Reply::Nothing),
+        (2, Call::Enter(0), Reply::Entry(Entry::Shut)),
+        (2, Call::Reopen(0), Reply::Bank(Reopening::Busy)),
+        (1, Call::Leave, Reply::Nothing),
+        (2, Call::Reopen(0), Reply::Bank(Reopening::Given)),
+        (1, Call::Enter(0), Reply::Entry(Entry::OtherRound(2))),
+        (1, Call::Enter(2), Reply::Entry(Entry::Inside)),
+        (1, Call::Step(0), Reply::Answer(Answer::Made(late))),
+        (1, Call::Seal, Reply::Nothing),
+        (1, Call::Leave, Reply::Nothing),
+        (2, Call::Reopen(0), Reply::Bank(Reopening::OtherRound(2))),
     ])
 }
 
@@ -185,7 +161,7 @@ fn first_other<B: Allocator>(
     banks: &Banks<'_, '_, B>,
     jobs: &[Job],
     seats: &mut TwoSeats<B>,
-    script: &[(Who, Call, Reply)],
+    script: &[(u32, Call, Reply)],
 ) -> Option<(Call, Reply)>
     requires own { IsSeatOf banks.now seats.old.one × IsSeatOf banks.now seats.old.two }
     requires jobs { jobs_on banks.now ≡ jobs.now }
@@ -193,8 +169,8 @@ fn first_other<B: Allocator>(
 {
     for (who, call, wanted) in script {
         let found = match who {
-            Who::One => called(banks, jobs, &mut seats.one, *call),
-            Who::Two => called(banks, jobs, &mut seats.two, *call),
+            1 => called(banks, jobs, &mut seats.one, *call),
+            _ => called(banks, jobs, &mut seats.two, *call),
         };
         if found != *wanted {
             return Some((*call, found));
@@ -203,14 +179,38 @@ fn first_other<B: Allocator>(
     None
 }
 
-/// The replies are those of the script.
+/// Opens banks over this memory, has two seats make the calls of a script, whose replies are the script's, and closes
+/// the banks. It returns how many gates were made. No memory is asked for after the opening.
+fn works_without_memory(
+    heap: &Refusing<Global>,
+    jobs: &[Job],
+    script: &[(u32, Call, Reply)],
+) -> Result<u64, Fail> {
+    let mut seats = Vec::with_capacity(heap, 2)?;
+    let (banks, mut both) = two_seats(heap, jobs)?;
+    let opened = heap.growths();
+    let other = first_other(&banks, jobs, &mut both, script);
+    let TwoSeats { one, two } = both;
+    if one.inside().is_some() || two.inside().is_some() {
+        return Err(Fail::new("both seats are outside"));
+    }
+    seats.push(one)?;
+    seats.push(two)?;
+    let Ok(made) = banks.close(seats) else {
+        return Err(Fail::new("both seats are there"));
+    };
+    equal((other, heap.growths()), (None, opened))?;
+    Ok(made)
+}
+
+/// The replies are those of the script, after which two gates are made.
 fn take_turns(alloc: Global, jobs: &[Job]) -> Result<(), Fail> {
     if jobs.len() != 3 {
         return Err(Fail::new("there are three jobs"));
     }
-    let script = script(alloc, jobs)?;
-    let (banks, mut seats) = two_seats(alloc, jobs)?;
-    equal(first_other(&banks, jobs, &mut seats, &script), None)
+    let script = script(jobs)?;
+    let made = works_without_memory(&Refusing::never(alloc), jobs, &script)?;
+    equal(made, 2)
 }
 
 #[test]
@@ -259,43 +259,4 @@ fn close_at_last(alloc: Global, jobs: &[Job]) -> Result<(), Fail> {
 #[test]
 fn a_seat_is_inside_or_missing(rt: HostRuntime) -> Result<(), Fail> {
     on_three_jobs(rt.alloc(), |jobs| close_at_last(rt.alloc(), jobs))
-}
-
-/// Opens banks over this memory, has two seats make the calls of a script, and closes them. It returns how
-/// many gates were made, where no memory was asked for after the opening.
-fn works_without_memory(
-    heap: &Refusing<Global>,
-    jobs: &[Job],
-    script: &[(Who, Call, Reply)],
-) -> Result<u64, Fail> {
-    let mut seats = Vec::with_capacity(heap, 2)?;
-    let (banks, mut both) = two_seats(heap, jobs)?;
-    let opened = heap.growths();
-    first_other(&banks, jobs, &mut both, script);
-    let TwoSeats { one, two } = both;
-    if one.inside().is_some() || two.inside().is_some() {
-        return Err(Fail::new("both seats are outside"));
-    }
-    seats.push(one)?;
-    seats.push(two)?;
-    let Ok(made) = banks.close(seats) else {
-        return Err(Fail::new("both seats are there"));
-    };
-    if !one_circuit(jobs) || heap.growths() != opened {
-        return Err(Fail::new("a growth was asked for"));
-    }
-    Ok(made)
-}
-
-/// Banks that are open ask for no memory, and neither does the question whether their jobs are on one circuit.
-#[test]
-fn opened_banks_grow_nothing(rt: HostRuntime) -> Result<(), Fail> {
-    on_three_jobs(rt.alloc(), |jobs| {
-        if jobs.len() != 3 {
-            return Err(Fail::new("there are three jobs"));
-        }
-        let script = script(rt.alloc(), jobs)?;
-        let made = works_without_memory(&Refusing::never(rt.alloc()), jobs, &script)?;
-        equal(made, 2)
-    })
 }

@@ -1,17 +1,17 @@
-//! Tests of boards: what the calls of seats that take turns return, and each growth of the opening refused.
+//! Tests of boards: what the calls of seats that take turns return, each growth of opening and decoding refused, and
+//! that no other call allocates.
 
 ghost use Rattle.std.specs.Prelude.{◌≡◌, ◌<◌, ◌≤◌, All, IfOk};
 ghost use Rattle.gc_eval.specs.Seats.{IsSeatOf, job_on};
 ghost use Rattle.gc_job.specs.ActiveLabels.{gates_of};
 
-use crate::fixtures::on_job;
-use gc_circuit::show_value;
+use crate::fixtures::{on_job, on_zeros};
 use gc_eval::{Active, EvalBoard, EvalSeat};
-use gc_fixtures::circuits::{AND_INV_AND, CONSTANT_AND, FULL_ADDER};
+use gc_fixtures::circuits::{FULL_ADDER, mixed_chains};
 use gc_fixtures::compare::equal;
-use gc_fixtures::growths::{Answer as Run, Stray, plain_if, runs_refused};
+use gc_fixtures::growths::{Answer as Run, runs_refused};
 use gc_fixtures::refusing::Refusing;
-use gc_job::{EvalFault, Job, evaluate};
+use gc_job::{EvalFault, Job};
 use gc_label::Label;
 use gc_steps::Answer;
 use gc_workers::{CloseRefused, OpenFault};
@@ -66,12 +66,13 @@ fn made_label(answer: Answer) -> Option<Label> {
     }
 }
 
-/// Two seats take turns at a job of the full adder.
+/// Two seats take turns at a job of the full adder: gate by gate, and at last two gates at a time.
 fn take_turns(alloc: Global, job: &Job) -> Result<(), Fail> {
     if job.circuit().gates() != 5 || job.circuit().wires() != 8 {
         return Err(Fail::new("the job is of the full adder"));
     }
     let (board, mut one, mut two) = two_seats(alloc, job)?;
+    let early = board.step_two(&mut one, 2, 4);
     let answers = steps(&board, &mut one, &mut two);
     let label = made_label(answers[2]).ok_or("gate 1 is free")?;
     let are_made = made_label(answers[1]).is_some() && made_label(answers[4]).is_some();
@@ -79,7 +80,13 @@ fn take_turns(alloc: Global, job: &Job) -> Result<(), Fail> {
     equal((answers[0], are_made, answers[3]), wanted)?;
     let labels = (board.label(&mut one, 7), board.label(&mut two, 7));
     equal(labels, (None, None))?;
-    equal((one.made(), two.made()), (2, 1))
+    let (third, again) = board.step_two(&mut two, 3, 3);
+    let (last, known) = board.step_two(&mut one, 4, 3);
+    let label = made_label(third).ok_or("gate 3 is free")?;
+    equal((again, known), (Answer::Done(label), Answer::Done(label)))?;
+    equal(early, (Answer::NotYet(3), Answer::NotYet(5)))?;
+    let is_made = made_label(last).is_some();
+    equal((is_made, one.made(), two.made()), (true, 3, 2))
 }
 
 #[test]
@@ -92,58 +99,14 @@ fn two_seats_take_turns(rt: HostRuntime) -> Result<(), Fail> {
     )
 }
 
-/// The answers to three steps of two gates at once.
-fn double_steps(board: &EvalBoard, one: &mut EvalSeat, two: &mut EvalSeat) -> [(Answer, Answer); 3]
-    requires one { IsSeatOf board.now one.old }
-    requires two { IsSeatOf board.now two.old }
-    requires gates { gates_of (job_on board.now) ≡ 5 }
-    ensures { IsSeatOf board.now one.new × IsSeatOf board.now two.new }
-{
-    [
-        board.step_two(one, 2, 1),
-        board.step_two(two, 0, 0),
-        board.step_two(two, 2, 1),
-    ]
-}
-
-/// Two seats take turns at a job of the full adder, two gates at a time.
-fn take_two(alloc: Global, job: &Job) -> Result<(), Fail> {
-    if job.circuit().gates() != 5 {
-        return Err(Fail::new("the job is of the full adder"));
-    }
-    let (board, mut one, mut two) = two_seats(alloc, job)?;
-    let [first, second, third] = double_steps(&board, &mut one, &mut two);
-    let one_label = made_label(first.1).ok_or("gate 1 is free")?;
-    let zero_label = made_label(second.0).ok_or("gate 0 is free")?;
-    let is_made = made_label(third.0).is_some();
-    let wanted = (
-        Answer::NotYet(3),
-        Answer::Done(zero_label),
-        true,
-        Answer::Done(one_label),
-    );
-    equal((first.0, second.1, is_made, third.1), wanted)?;
-    equal((one.made(), two.made()), (1, 2))
-}
-
-#[test]
-fn two_gates_in_a_step(rt: HostRuntime) -> Result<(), Fail> {
-    on_job(
-        rt.alloc(),
-        FULL_ADDER,
-        &ADDENDS,
-        |job| take_two(rt.alloc(), job),
-    )
-}
-
 /// How many seats a board over this memory has.
 fn opened<A: Allocator + Copy>(alloc: A, job: &Job) -> Result<usize, OpenFault> {
     let (_, seats) = EvalBoard::open(alloc, job, 2)?;
     Ok(seats.len())
 }
 
-/// Each growth of `open` is refused in turn: the words, the two tables of the circuit, the seats, and the table's own
-/// two blocks, without which there is no table.
+/// The words, the two tables of the circuit, the seats, and the table's own two blocks, without which there is no
+/// table.
 #[test]
 fn only_the_table_is_no_table(rt: HostRuntime) -> Result<(), Fail> {
     on_job(rt.alloc(), FULL_ADDER, &ADDENDS, |job| {
@@ -214,21 +177,6 @@ fn a_seat_is_missing(rt: HostRuntime) -> Result<(), Fail> {
     )
 }
 
-/// A board with one seat.
-pub(crate) fn one_seat<'j, 'c>(
-    alloc: Global,
-    job: &'j Job<'c>,
-) -> Result<(EvalBoard<'j, 'c>, EvalSeat), Fail>
-    ensures job { IfOk result (λ b. job_on b.0 ≡ job.now) }
-    ensures seat { IfOk result (λ b. IsSeatOf b.0 b.1) }
-{
-    let (board, mut seats) = EvalBoard::open(alloc, job, 1)?;
-    let Some(seat) = seats.pop() else {
-        return Err(Fail::new("there is a seat"));
-    };
-    Ok((board, seat))
-}
-
 /// One seat steps all gates of the circuit in file order.
 fn step_all<'j, 'c, B: Allocator>(board: &EvalBoard<'j, 'c, B>, job: &Job<'c>, seat: &mut EvalSeat)
     requires own { IsSeatOf board.now seat.old }
@@ -240,42 +188,13 @@ fn step_all<'j, 'c, B: Allocator>(board: &EvalBoard<'j, 'c, B>, job: &Job<'c>, s
     }
 }
 
-/// How many growths of decoding are refused in turn: it returns these bits with ample memory.
-fn decoding_refused(alloc: Global, active: &Active, wanted: &[bool]) -> Result<u64, Stray> {
-    runs_refused(alloc, |heap| match active.decode(heap) {
-        Ok(bits) => plain_if(bits.is_some_and(|bits| bits.as_slice() == wanted)),
+/// What decoding over this memory returned.
+fn decoded(heap: &Refusing<Global>, active: &Active) -> Run {
+    match active.decode(heap) {
+        Ok(Some(_)) => Run::Plain,
         Err(EvalFault::Memory) => Run::Memory,
-        Err(_) => Run::Other,
-    })
-}
-
-/// How many gates one seat makes, and its board, closed.
-fn made_alone<'j, 'c>(alloc: Global, job: &'j Job<'c>) -> Result<(u64, Active<'j, 'c>), Fail> {
-    let (board, mut seat) = one_seat(alloc, job)?;
-    step_all(&board, job, &mut seat);
-    let made = seat.made();
-    let mut seats = Vec::new(alloc);
-    seats.push(seat)?;
-    Ok((made, closed(board, seats)?))
-}
-
-/// What one seat makes decodes to what the evaluation on one thread returns. Decoding allocates the output labels and
-/// their bits.
-fn made_by_one(alloc: Global, job: &Job) -> Result<(), Fail> {
-    let (made, active) = made_alone(alloc, job)?;
-    let wanted = evaluate(alloc, job)?;
-    let refused = decoding_refused(alloc, &active, &wanted);
-    equal((made, active.done(), refused), (5, 5, Ok(2)))
-}
-
-#[test]
-fn one_seat_makes_all(rt: HostRuntime) -> Result<(), Fail> {
-    on_job(
-        rt.alloc(),
-        FULL_ADDER,
-        &ADDENDS,
-        |job| made_by_one(rt.alloc(), job),
-    )
+        _ => Run::Other,
+    }
 }
 
 /// Has one seat make all gates and share them with the other one.
@@ -315,7 +234,17 @@ fn works_without_memory(heap: &Refusing<Global>, job: &Job, wire: u32) -> Result
     Ok((is_same, done))
 }
 
-/// A board that is open asks for no memory, and once it is closed neither do its labels.
+/// Decoding what a seat made allocates the output labels and their bits.
+fn decoding_refused(alloc: Global, job: &Job) -> Result<(), Fail> {
+    let (board, mut one, two) = two_seats(alloc, job)?;
+    step_all(&board, job, &mut one);
+    let mut seats = Vec::new(alloc);
+    seats.push(one)?;
+    seats.push(two)?;
+    let active = closed(board, seats)?;
+    equal(runs_refused(alloc, |heap| decoded(heap, &active)), Ok(2))
+}
+
 #[test]
 fn an_opened_board_grows_nothing(rt: HostRuntime) -> Result<(), Fail> {
     on_job(rt.alloc(), FULL_ADDER, &ADDENDS, |job| {
@@ -323,7 +252,8 @@ fn an_opened_board_grows_nothing(rt: HostRuntime) -> Result<(), Fail> {
             return Err(Fail::new("the job is of the full adder"));
         }
         let found = works_without_memory(&Refusing::never(rt.alloc()), job, 7)?;
-        equal(found, (true, 5))
+        equal(found, (true, 5))?;
+        decoding_refused(rt.alloc(), job)
     })
 }
 
@@ -351,52 +281,24 @@ fn step_twice<'j, 'c, R: Threads + Sync>(
     }
 }
 
-/// What this many seats make, at first each in a thread of its own, and then one after another, decodes to the output
-/// bits.
-fn made_by<R: Threads + Sync>(
-    rt: &R,
-    alloc: Global,
-    job: &Job,
-    seats: u32,
-) -> Result<Option<Vec<bool>>, Fail>
+/// How many gates are done that this many seats step, at first each in a thread of its own, and then one after another.
+fn make_all<R: Threads + Sync>(rt: &R, alloc: Global, job: &Job, seats: u32) -> Result<u32, Fail>
     requires { (0 < seats) × (seats ≤ 8) }
 {
     let (board, mut all) = EvalBoard::open(alloc, job, seats)?;
     step_twice(rt, &board, job, all.as_mut_slice());
-    Ok(closed(board, all)?.decode(alloc)?)
+    Ok(closed(board, all)?.done())
 }
 
-/// Circuits, input values, and output bits.
-static ROWS: [(&str, &[&str], &str); 4] = [
-    (FULL_ADDER, &ADDENDS, "01"),
-    (FULL_ADDER, &["1", "1", "1"], "11"),
-    (CONSTANT_AND, &["1"], "1"),
-    (AND_INV_AND, &["1", "0"], "11"),
-];
-
-/// Seats, from one to eight, at boards of a job whose output bits are these.
-fn made_by_each<R: Threads + Sync>(
-    rt: &R,
-    alloc: Global,
-    job: &Job,
-    outputs: &str,
-) -> Result<(), Fail> {
-    for seats in 1..9 {
-        let made = made_by(rt, alloc, job, seats)?.ok_or("each output has a label")?;
-        equal(show_value(alloc, &made)?.as_slice(), outputs.as_bytes())?;
-    }
-    Ok(())
-}
-
+/// Seats, from one to eight, make all gates of a circuit with gates of each operation.
 #[test]
 fn many_seats(rt: HostRuntime) -> Result<(), Fail> {
-    for (text, values, outputs) in &ROWS {
-        on_job(
-            rt.alloc(),
-            text,
-            values,
-            |job| made_by_each(&rt, rt.alloc(), job, outputs),
-        )?;
-    }
-    Ok(())
+    let text = mixed_chains(rt.alloc(), 8, 16)?;
+    on_zeros(rt.alloc(), text.as_str(), |job| {
+        for seats in 1..9 {
+            let made = make_all(&rt, rt.alloc(), job, seats)?;
+            equal((seats, made), (seats, job.circuit().gates()))?;
+        }
+        Ok(())
+    })
 }

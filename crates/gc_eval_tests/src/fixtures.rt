@@ -6,9 +6,8 @@ use gc_circuit::Circuit;
 use gc_file::{Version, read_garbled};
 use gc_fixtures::circuits::FULL_ADDER;
 use gc_fixtures::files::{label_files, write};
-use gc_fixtures::growths::{Answer, plain_if};
-use gc_job::{EvalFault, Job};
-use std::alloc::{Allocator, Global};
+use gc_job::Job;
+use std::alloc::Global;
 use std::test::Fail;
 
 /// The job of a circuit's file in this version on these values.
@@ -106,16 +105,4 @@ pub(crate) fn on_three_jobs<F: Fn(&[Job]) -> Result<(), Fail>>(
     let circuit = Circuit::read(alloc, FULL_ADDER.as_bytes())?;
     let jobs = three_jobs(alloc, &circuit)?;
     test(&jobs)
-}
-
-/// What came of an evaluation that returns these bits with ample memory.
-pub(crate) fn answer_of_bits<A: Allocator>(
-    found: Result<Vec<bool, A>, EvalFault>,
-    wanted: &[bool],
-) -> Answer {
-    match found {
-        Ok(bits) => plain_if(bits.as_slice() == wanted),
-        Err(EvalFault::Memory) => Answer::Memory,
-        Err(_) => Answer::Other,
-    }
 }

@@ -1,6 +1,6 @@
 //! Each growth refused in turn of the calls that bind jobs and evaluate them.
 
-use crate::fixtures::{answer_of_bits, on_job};
+use crate::fixtures::on_job;
 use gc_circuit::Circuit;
 use gc_file::{Version, read_garbled};
 use gc_fixtures::circuits::AND;
@@ -8,7 +8,7 @@ use gc_fixtures::compare::equal;
 use gc_fixtures::files::{and_file, label_files};
 use gc_fixtures::growths::{Answer, answer_of, runs_refused};
 use gc_fixtures::refusing::Refusing;
-use gc_job::{BindFault, Job, evaluate};
+use gc_job::{BindFault, EvalFault, Job, evaluate};
 use std::alloc::{Allocator, Global};
 use std::test::Fail;
 
@@ -37,7 +37,7 @@ fn evaluating(rt: HostRuntime) -> Result<(), Fail> {
     on_job(rt.alloc(), AND, &["1", "1"], |job| {
         let refused = runs_refused(
             rt.alloc(),
-            |heap| answer_of_bits(evaluate(heap, job), &[true]),
+            |heap| answer_of(evaluate(heap, job), EvalFault::Memory),
         );
         equal(refused, Ok(3))
     })
@@ -53,7 +53,7 @@ fn decoded(alloc: Global, job: &Job) -> Result<(), Fail> {
         if job.circuit().output_wires() != 1 {
             return Answer::Other;
         }
-        answer_of_bits(job.decode(heap, &[label]), &[true])
+        answer_of(job.decode(heap, &[label]), EvalFault::Memory)
     });
     equal(refused, Ok(1))
 }

@@ -1,2 +1,1 @@
 pub mod MemFiles
-pub mod Refusals

@@ -4,14 +4,12 @@ use gc_workers::Gatehouse;
 use std::alloc::{AllocError, Global};
 use std::sync::atomic::{AtomicU64, Ordering};
 
-/// Counts how often each gate is reported, and which workers report any.
+/// Counts how often each gate is reported, and knows the highest number of a worker that reports any.
 #[derive(Drop)]
 pub struct Counting {
     reports: Vec<AtomicU64>,
-    // Bit w is worker w's.
+    // That number, plus 1.
     workers: AtomicU64,
-    // How often a worker of a higher number than 63 reports a gate.
-    strays: AtomicU64,
 }
 
 impl Counting {
@@ -21,11 +19,8 @@ impl Counting {
         for _gate in 0..gates {
             reports.push(AtomicU64::new(0))?;
         }
-        Ok(Counting {
-            reports,
-            workers: AtomicU64::new(0),
-            strays: AtomicU64::new(0),
-        })
+        let workers = AtomicU64::new(0);
+        Ok(Counting { reports, workers })
     }
 
     /// Whether each gate is reported this often at least, and none more often than `most`.
@@ -39,23 +34,16 @@ impl Counting {
         true
     }
 
-    /// Whether each worker that reported a gate has a number below this one, which is at most 64.
+    /// Whether each worker that reported a gate has a number below this one.
     pub fn are_below(&self, workers: u32) -> bool {
-        let others = self
-            .workers
-            .load(Ordering::SeqCst)
-            .checked_shr(workers)
-            .unwrap_or(0);
-        others == 0 && self.strays.load(Ordering::SeqCst) == 0
+        self.workers.load(Ordering::SeqCst) <= u64::from(workers)
     }
 }
 
 impl Gatehouse for Counting {
     fn before(&self, worker: u32, gate: u32) {
-        match 1u64.checked_shl(worker) {
-            Some(bit) => self.workers.fetch_or(bit, Ordering::SeqCst),
-            None => self.strays.fetch_add(1, Ordering::SeqCst),
-        };
+        self.workers
+            .fetch_max(u64::from(worker) + 1, Ordering::SeqCst);
         if let Some(reports) = self.reports.get(gate as usize) {
             reports.fetch_add(1, Ordering::SeqCst);
         }

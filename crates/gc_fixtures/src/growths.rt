@@ -25,10 +25,6 @@ pub fn answer_of<T: Drop, E: PartialEq + Copy>(found: Result<T, E>, memory: E) -
     }
 }
 
-pub fn plain_if(holds: bool) -> Answer {
-    if holds { Answer::Plain } else { Answer::Other }
-}
-
 /// A run that returned something else than it should.
 #[derive(Clone, Copy, PartialEq, Eq, Debug)]
 pub enum Stray {

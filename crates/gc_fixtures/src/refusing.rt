@@ -1,59 +1,23 @@
-//! An allocator for tests, which refuses chosen allocations and counts them all. So a test can let memory run out at
+//! An allocator for tests, which refuses a chosen allocation and counts them all. So a test can let memory run out at
 //! each allocation in turn.
-
-ghost use Rattle.std.specs.Prelude.{◌≡◌, ◌↔◌, IsTrue};
-ghost use Rattle.gc_fixtures.specs.Refusals.{AnswersSomeGrowth, IsRefused, inner_of, refusal_of};
-ghost use Rattle.gc_fixtures.specs.declared.refusing.Refusal.TheVariants.{Always, Never, Nth};
 
 use std::alloc::{AllocError, Allocator};
 use std::sync::atomic::{AtomicU64, Ordering};
 
-/// Which allocations are refused. The first allocation has the number 1.
-#[derive(Clone, Copy)]
-enum Refusal {
-    Never,
-    Nth(u64),
-    Always,
-}
-
-impl Refusal {
-    /// Whether the allocation of this number is refused.
-    fn refuses(self, growth: u64) -> bool
-        ensures { IsTrue result ↔ IsRefused self growth }
-    {
-        match self {
-            Refusal::Never => false,
-            Refusal::Nth(n) => growth == n,
-            Refusal::Always => true,
-        }
-    }
-}
-
-/// The allocations so far: how many were asked for, and how many of these were refused.
+/// Which allocation is refused, counted from 1, and the allocations so far: how many were asked for, and how many of
+/// these were refused.
 #[derive(Drop)]
 struct Tally {
-    refusal: Refusal,
+    nth: u64,
     growths: AtomicU64,
     refused: AtomicU64,
 }
 
 impl Tally {
-    fn new(refusal: Refusal) -> Tally
-        ensures { result.refusal ≡ refusal }
-    {
-        Tally {
-            refusal,
-            growths: AtomicU64::new(0),
-            refused: AtomicU64::new(0),
-        }
-    }
-
     /// Counts one more allocation, and says whether it is refused.
-    fn refuses_next(&self) -> bool
-        ensures { AnswersSomeGrowth self.now.refusal result }
-    {
+    fn refuses_next(&self) -> bool {
         let growth = self.growths.fetch_add(1, Ordering::SeqCst).wrapping_add(1);
-        let refused = self.refusal.refuses(growth);
+        let refused = growth == self.nth;
         if refused {
             self.refused.fetch_add(1, Ordering::SeqCst);
         }
@@ -61,7 +25,7 @@ impl Tally {
     }
 }
 
-/// An allocator that refuses some allocations, and hands the others to `inner`.
+/// An allocator that refuses an allocation, and hands the others to `inner`.
 ///
 /// An allocation is one call of `allocate`: each time that a collection takes a block, be it larger or smaller than the
 /// last. Lend it as `&heap` to the code under test, and read the counts after. Threads may share it, and each
@@ -72,39 +36,19 @@ pub struct Refusing<B: Allocator> {
 }
 
 impl<B: Allocator> Refusing<B> {
-    /// Refuses the allocations that `refusal` says.
-    fn new(inner: B, refusal: Refusal) -> Refusing<B>
-        ensures refusal { refusal_of result ≡ refusal }
-        ensures inner { inner_of result ≡ inner }
-    {
-        Refusing {
-            inner,
-            tally: Tally::new(refusal),
-        }
-    }
-
     /// Refuses no allocation, and counts them.
-    pub fn never(inner: B) -> Refusing<B>
-        ensures refusal { refusal_of result ≡ Never }
-        ensures inner { inner_of result ≡ inner }
-    {
-        Refusing::new(inner, Refusal::Never)
+    pub fn never(inner: B) -> Refusing<B> {
+        Refusing::nth(inner, 0)
     }
 
     /// Refuses the `n`-th allocation, counted from 1, and no other. At 0 it refuses none.
-    pub fn nth(inner: B, n: u64) -> Refusing<B>
-        ensures refusal { refusal_of result ≡ Nth n }
-        ensures inner { inner_of result ≡ inner }
-    {
-        Refusing::new(inner, Refusal::Nth(n))
-    }
-
-    /// Refuses every allocation.
-    pub fn always(inner: B) -> Refusing<B>
-        ensures refusal { refusal_of result ≡ Always }
-        ensures inner { inner_of result ≡ inner }
-    {
-        Refusing::new(inner, Refusal::Always)
+    pub fn nth(inner: B, n: u64) -> Refusing<B> {
+        let tally = Tally {
+            nth: n,
+            growths: AtomicU64::new(0),
+            refused: AtomicU64::new(0),
+        };
+        Refusing { inner, tally }
     }
 
     /// How many allocations were asked for so far, those that were refused among them.

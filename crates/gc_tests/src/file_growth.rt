@@ -1,19 +1,19 @@
 //! Each growth refused in turn of the calls that read files and of sinks in memory, and calls that don't allocate.
 
-use crate::pieces::{FORGED_HEADER, HALF, flip};
+use crate::fixtures::read;
 use gc_circuit::Circuit;
 use gc_file::{
-    FileFault, GarbledReader, MemSink, MemSource, OutSink, Sink, SinkFault, TakeFault, Version,
-    WriteFault, before_trailer, read_garbled, read_garbled_by_digest, read_garbled_from,
-    read_labels, write_garbled, write_garbled2, write_labels,
+    FileFault, Garbled, GarbledReader, MemSink, MemSource, OutSink, Sink, TakeFault, Version,
+    before_trailer, read_garbled, read_garbled_by_digest, read_garbled_from, read_labels,
+    write_garbled, write_garbled2, write_labels,
 };
 use gc_fixtures::circuits::AND;
 use gc_fixtures::compare::equal;
-use gc_fixtures::files::{ONE_LABEL, and_file, zero_seed};
+use gc_fixtures::files::{and_file, label_file, zero_seed};
 use gc_fixtures::growths::{Answer, answer_of, runs_refused};
 use gc_fixtures::refusing::Refusing;
-use gc_half::{Garbling, garble_one_thread, output_entry};
-use gc_label::{Label, offset};
+use gc_half::{garble_one_thread, output_entry};
+use gc_label::offset;
 use sha2::{Digest, Sha256};
 use std::alloc::{Allocator, Global};
 use std::test::Fail;
@@ -31,7 +31,7 @@ impl Call {
     /// The file that it reads, a garbled one of this version.
     fn file(self, alloc: Global, version: Version) -> Result<Vec<u8>, Fail> {
         if self == Call::ReadLabels {
-            Ok(hex::decode(alloc, ONE_LABEL)?)
+            label_file(alloc, &read(alloc, AND)?, 0, &[true])
         } else {
             and_file(alloc, version)
         }
@@ -86,24 +86,35 @@ fn faults_before_the_rows_take_no_memory(rt: HostRuntime) -> Result<(), Fail> {
         (Call::ReadLabels, 127),
     ] {
         let mut file = call.file(rt.alloc(), Version::Two)?;
-        flip(&mut file, bit);
-        let full = Refusing::always(rt.alloc());
-        let answer = call.answer(&full, &file);
-        equal((bit, answer, full.growths()), (bit, Answer::Other, 0))?;
+        if let Some(byte) = file.get_mut(bit / 8) {
+            *byte ^= 1 << (bit % 8);
+        }
+        let heap = Refusing::never(rt.alloc());
+        let answer = call.answer(&heap, &file);
+        equal((bit, answer, heap.growths()), (bit, Answer::Other, 0))?;
     }
     Ok(())
 }
 
-static ROW_PAIR: [u8; 32] = [0; 32];
+/// A header with the digest of one AND gate, 1,048,576 row pairs and one output.
+const FORGED_HEADER: &str = concat!(
+    "48474152424c4531",
+    "48b39dc66f66f62d8630058dfe655fa07dd8d4398fd1acb1f6ce2a22c3a8fe00",
+    "0000100001000000",
+);
 
-/// Whether a garbled reader takes the header and then a given number of row pairs.
-fn takes_rows<A: Allocator + Copy>(heap: A, header: &[u8], pairs: u32) -> bool {
+/// Reads a file that ends after this header and this number of row pairs.
+fn read_rows<A: Allocator + Copy>(
+    heap: A,
+    header: &[u8],
+    pairs: u32,
+) -> Result<Garbled<A>, FileFault> {
     let mut reader = GarbledReader::new(heap);
-    let mut takes = reader.feed(header).is_ok();
+    reader.feed(header)?;
     for _pair in 0..pairs {
-        takes &= reader.feed(&ROW_PAIR).is_ok();
+        reader.feed(&[0; 32])?;
     }
-    takes
+    reader.end()
 }
 
 /// Room for row pairs is made as they come, one at a time, for twice as many each time, whatever number the header
@@ -113,85 +124,64 @@ fn room_for_rows_doubles(rt: HostRuntime) -> Result<(), Fail> {
     let header = hex::decode(rt.alloc(), FORGED_HEADER)?;
     for (pairs, growths) in [(0, 0), (1, 1), (2, 2), (3, 3), (4, 3), (64, 7), (65, 8)] {
         let heap = Refusing::never(rt.alloc());
-        let takes = takes_rows(&heap, &header, pairs);
-        equal((pairs, takes, heap.growths()), (pairs, true, growths))?;
+        let fault = read_rows(&heap, &header, pairs).err();
+        let wanted = (pairs, Some(FileFault::Truncated), growths);
+        equal((pairs, fault, heap.growths()), wanted)?;
     }
     Ok(())
 }
 
 static PIECE: [u8; 16_384] = [0; 16_384];
 
-/// What came of five pieces that go to a sink in memory.
+/// What came of five pieces that go to a sink in memory, which takes one that it was refused memory for the next time.
 fn filled<A: Allocator>(heap: A) -> Answer {
     let mut sink = MemSink::new(heap, None);
+    let mut answer = Answer::Plain;
     for _piece in 0..5 {
         if sink.put(&PIECE).is_err() {
-            return Answer::Memory;
+            answer = Answer::Memory;
+            if sink.put(&PIECE) != Ok(PIECE.len()) {
+                return Answer::Other;
+            }
         }
     }
-    Answer::Plain
+    answer
 }
 
-/// A sink that is full makes room for twice as many bytes. It fails where that is refused, and nowhere else.
+/// A sink that is full makes room for twice as many bytes. It fails where that is refused, and nowhere else. Making a
+/// sink doesn't allocate.
 #[test]
 fn writing_to_memory(rt: HostRuntime) -> Result<(), Fail> {
     equal(runs_refused(rt.alloc(), |heap| filled(heap)), Ok(4))
 }
 
-/// A sink that is refused memory for a piece accepts the piece the next time. Making a sink doesn't allocate.
-#[test]
-fn a_sink_after_a_refusal(rt: HostRuntime) -> Result<(), Fail> {
-    let heap = Refusing::nth(rt.alloc(), 2);
-    let mut sink = MemSink::new(&heap, None);
-    let following = b", which another follows";
-    let answers = [sink.put(HALF), sink.put(following), sink.put(following)];
-    equal(answers, [Ok(6), Err(SinkFault), Ok(23)])
-}
-
-/// What the writers return over a room of 300 bytes, a garbled file of either version and a label file twice, and an
-/// entry.
-type InRoom = ([Result<u64, WriteFault>; 4], Label);
-
-fn written_to_room<A: Allocator, B: Allocator>(
-    circuit: &Circuit<A>,
-    garbling: &Garbling<B>,
-) -> Option<InRoom> {
-    if !garbling.fits(circuit)
+/// Writes a garbled file of each version of the AND gate, which is read and garbled in this memory, to a room of 300
+/// bytes, and a label file twice. Returns whether each is written but the last, for which there is no room.
+fn written<A: Allocator + Copy>(heap: A) -> Result<[bool; 4], Fail> {
+    let circuit = Circuit::read(heap, AND.as_bytes())?;
+    let seed = zero_seed();
+    let garbling = garble_one_thread(heap, &circuit, &seed)?;
+    if !garbling.fits(&circuit)
         || circuit.input_widths() != [1, 1].as_slice()
         || circuit.output_wires() == 0
     {
-        return None;
+        return Err(Fail::new("the garbling is of an AND gate"));
     }
-    let seed = zero_seed();
+    output_entry(&circuit, &garbling, offset(&seed), 0, false);
     let mut room = [0; 300];
     let mut sink = OutSink::new(room.as_mut_slice());
-    let answers = [
-        write_garbled(&mut sink, circuit, garbling),
-        write_garbled2(&mut sink, circuit, garbling, &seed),
-        write_labels(&mut sink, circuit, &seed, 1, &[true]),
-        write_labels(&mut sink, circuit, &seed, 1, &[true]),
-    ];
-    let entry = output_entry(circuit, garbling, offset(&seed), 0, false);
-    Some((answers, entry))
+    Ok([
+        write_garbled(&mut sink, &circuit, &garbling).is_ok(),
+        write_garbled2(&mut sink, &circuit, &garbling, &seed).is_ok(),
+        write_labels(&mut sink, &circuit, &seed, 1, &[true]).is_ok(),
+        write_labels(&mut sink, &circuit, &seed, 1, &[true]).is_ok(),
+    ])
 }
 
-/// The same of the AND gate, which is read and garbled in this memory.
-fn written<A: Allocator + Copy>(heap: A) -> Result<Option<InRoom>, Fail> {
-    let circuit = Circuit::read(heap, AND.as_bytes())?;
-    let garbling = garble_one_thread(heap, &circuit, &zero_seed())?;
-    Ok(written_to_room(&circuit, &garbling))
-}
-
-/// The first entry of the AND gate's file of version 2.
-const ENTRY: u128 = 0x618dfefbe857572b9c6ab3cac843348f;
-
-/// The writers grow nothing over a sink that doesn't allocate, here one whose room ends ten bytes into the second label
-/// file. Nor does an entry. Reading and garbling do.
+/// The writers grow nothing over a sink that doesn't allocate, and neither does an entry. Reading and garbling do.
 #[test]
 fn writing_and_an_entry_take_no_memory(rt: HostRuntime) -> Result<(), Fail> {
     let heap = Refusing::never(rt.alloc());
     let found = written(&heap)?;
-    let answers = [Ok(113), Ok(145), Ok(32), Err(WriteFault { sent: 10 })];
-    let wanted = Some((answers, Label::from_number(ENTRY)));
-    equal((found, heap.growths()), (wanted, 6))
+    equal((found, heap.growths()), ([true, true, true, false], 6))
 }

@@ -4,15 +4,14 @@ ghost use Rattle.std.specs.Prelude.{◌≡◌};
 ghost use Rattle.gc_store.specs.Account.{IsForStore};
 ghost use Rattle.gc_workers.specs.declared.TheConstants.{MAX_WORKERS};
 
-use gc_circuit::{Circuit, Operation};
+use gc_circuit::Circuit;
 use gc_fixtures::circuits::{FULL_ADDER, NO_GATES, and_chains, many_ands, mixed_chains};
 use gc_fixtures::files::zero_seed;
-use gc_half::garble_one_thread;
-use gc_label::{Seed, input_label, offset};
-use gc_store::{Sealed, Store, Tally, Task};
+use gc_store::{Sealed, Store, Tally};
 use gc_work::garble;
 use gc_workers::{Gatehouse, MAX_WORKERS};
 use std::alloc::{Allocator, Global};
+use std::hint::spin_loop;
 use std::sync::Wait;
 use std::sync::ledger::{Blank, Ledger};
 use std::test::Fail;
@@ -55,18 +54,16 @@ pub(crate) fn read(alloc: Global, text: &str) -> Result<Circuit, Fail> {
     Ok(Circuit::read(alloc, text.as_bytes())?)
 }
 
-/// Whether this many workers make the rows of a circuit of this shape that one thread makes.
-pub(crate) fn garbles<H: Gatehouse + Sync, R: AllocGlobal + Threads + Wait + Sync>(
+/// Has this many workers garble a circuit of this shape.
+pub(crate) fn garble_by<H: Gatehouse + Sync, R: AllocGlobal + Threads + Wait + Sync>(
     rt: &R,
     shape: Shape,
     workers: u32,
     observer: &H,
-) -> Result<bool, Fail> {
-    let alloc = rt.alloc();
-    let circuit = circuit_of(alloc, shape)?;
-    let garbling = garble(rt, alloc, &circuit, &zero_seed(), workers, observer)?;
-    let one_thread = garble_one_thread(alloc, &circuit, &zero_seed())?;
-    Ok(garbling.rows() == one_thread.rows())
+) -> Result<(), Fail> {
+    let circuit = circuit_of(rt.alloc(), shape)?;
+    garble(rt, rt.alloc(), &circuit, &zero_seed(), workers, observer)?;
+    Ok(())
 }
 
 /// What begins the ledger of a store.
@@ -84,11 +81,6 @@ pub(crate) fn open<L: Ledger, A: Allocator + Copy>(alloc: A, ledger: Blank) -> O
     Store::<L, A>::open(alloc, ledger, circuit, zero_seed()).ok()
 }
 
-/// Claims a gate, and returns it.
-pub(crate) fn claim_gate<L: Ledger, A: Allocator>(store: &mut Store<L, A>) -> Option<u32> {
-    Some(store.claim()?.gate)
-}
-
 /// Claims and finishes this many gates, one after another. None: one isn't ready, or is refused.
 pub(crate) fn finish_gates<L: Ledger, A: Allocator>(
     store: &mut Store<L, A>,
@@ -102,14 +94,9 @@ pub(crate) fn finish_gates<L: Ledger, A: Allocator>(
     Some(())
 }
 
-/// The sealed task of a gate that is an XOR of the input wires 0 and 2, as gate 0 of the full adder is.
-pub(crate) fn stranger(seed: &Seed, gate: u32) -> Sealed {
-    Sealed::make(Task {
-        gate,
-        operation: Operation::Xor(0, 2),
-        and_number: 0,
-        offset: offset(seed),
-        first: input_label(seed, 0),
-        second: input_label(seed, 2),
-    })
+/// Leaves other threads the time to find nothing to do, and to fall asleep.
+pub(crate) fn pause() {
+    for _turn in 0..2_000_000 {
+        spin_loop();
+    }
 }

@@ -1,17 +1,20 @@
-//! Each growth refused in turn of the calls of circuits, values and garbling. What a call returns otherwise is for its
-//! clauses to say.
+//! Each growth refused in turn of the calls of circuits, values, garbling and streaming, and calls that don't allocate.
+//! What a call returns otherwise is for its clauses to say.
 
-use crate::arrays::make_adder;
 use gc_circuit::{
-    ArraysFault, Circuit, Memory, ReadFault, ValueFault, fits, plain_eval, read_value, show_value,
+    Arrays, ArraysFault, Circuit, GateNumbers, Memory, ReadFault, ValueFault, fits, plain_eval,
+    read_value, show_value,
 };
 use gc_fixtures::circuits::{FULL_ADDER, many_ands, one_zero_one};
 use gc_fixtures::compare::equal;
 use gc_fixtures::files::zero_seed;
 use gc_fixtures::growths::{Answer, answer_of, runs_refused};
 use gc_fixtures::refusing::Refusing;
-use gc_half::{garble_one_thread, garble_two, input_zero_labels, padded_labels};
-use gc_label::Label;
+use gc_half::{
+    FirstAnd, RowPair, Start, StreamingEvaluator, StreamingGarbler, garble_one_thread, garble_two,
+    input_zero_labels, padded_labels,
+};
+use gc_label::{Label, offset};
 use linked_list_allocator::LocalHeap;
 use std::alloc::Allocator;
 use std::test::Fail;
@@ -31,6 +34,9 @@ enum Call {
     ActiveLabels,
     Garble,
     GarbleTwo,
+    Garbler,
+    GarblerUnderSeed,
+    Evaluator,
 }
 
 /// The fault of arrays where an allocation is refused.
@@ -41,7 +47,7 @@ const NO_ROOM: ArraysFault = ArraysFault {
 };
 
 /// The calls, and how many growths each asks for.
-static GROWTHS: [(Call, u64); 12] = [
+static GROWTHS: [(Call, u64); 15] = [
     (Call::Read, 4),
     (Call::Arrays, 4),
     (Call::Copy, 3),
@@ -54,7 +60,49 @@ static GROWTHS: [(Call, u64); 12] = [
     (Call::ActiveLabels, 1),
     (Call::Garble, 2),
     (Call::GarbleTwo, 4),
+    (Call::Garbler, 1),
+    (Call::GarblerUnderSeed, 1),
+    (Call::Evaluator, 1),
 ];
+
+/// The circuit of an AND gate, made of arrays.
+fn made_and<A: Allocator + Copy>(heap: A) -> Result<Circuit<A>, ArraysFault> {
+    let gate = GateNumbers {
+        operation: 1,
+        first: 0,
+        second: 1,
+        set: 2,
+    };
+    let arrays = Arrays {
+        wires: 3,
+        input_widths: &[2],
+        output_widths: &[1],
+        gates: &[gate],
+    };
+    Circuit::from_arrays(heap, arrays)
+}
+
+/// What beginning a garbler or an evaluator of the circuit returned, which has three input wires.
+fn begun<A: Allocator + Copy>(call: Call, heap: A, circuit: &Circuit) -> Answer {
+    let zero_labels = &[Label::ZERO; 3];
+    let Some(first) = FirstAnd::new(0, circuit.and_count()) else {
+        return Answer::Other;
+    };
+    if circuit.input_wires() != 3 {
+        return Answer::Other;
+    }
+    let start = Start {
+        offset: offset(&zero_seed()),
+        zero_labels,
+        first,
+    };
+    if call == Call::Garbler {
+        answer_of(StreamingGarbler::begin(heap, circuit, start), Memory)
+    } else {
+        let evaluator = StreamingEvaluator::begin(heap, circuit, start.first, zero_labels);
+        answer_of(evaluator, Memory)
+    }
+}
 
 /// What a call returned over this memory, of the full adder or of values for it.
 fn answer<A: Allocator + Copy>(
@@ -68,7 +116,7 @@ fn answer<A: Allocator + Copy>(
             Circuit::read(heap, FULL_ADDER.as_bytes()),
             ReadFault::Memory,
         ),
-        Call::Arrays => answer_of(make_adder(heap), NO_ROOM),
+        Call::Arrays => answer_of(made_and(heap), NO_ROOM),
         Call::Copy => answer_of(circuit.try_clone(heap), Memory),
         Call::Canon => answer_of(circuit.canon(heap), Memory),
         Call::ReadBits => answer_of(read_value(heap, b"100000000001", 12), ValueFault::Memory),
@@ -87,6 +135,11 @@ fn answer<A: Allocator + Copy>(
             garble_two(heap, circuit, &zero_seed(), &zero_seed()),
             Memory,
         ),
+        Call::GarblerUnderSeed => answer_of(
+            StreamingGarbler::begin_under_seed(heap, circuit, &zero_seed()),
+            Memory,
+        ),
+        Call::Garbler | Call::Evaluator => begun(call, heap, circuit),
     }
 }
 
@@ -150,4 +203,18 @@ fn a_circuit_that_is_read_grows_nothing(rt: HostRuntime) -> Result<(), Fail> {
     let heap = Refusing::never(rt.alloc());
     let is_read = reads(&heap, &values)?;
     equal((is_read, heap.growths()), (true, 4))
+}
+
+/// Of a garbler only the beginning allocates, once.
+#[test]
+fn no_growths_of_pieces(rt: HostRuntime) -> Result<(), Fail> {
+    let circuit = Circuit::read(rt.alloc(), FULL_ADDER.as_bytes())?;
+    let heap = Refusing::never(rt.alloc());
+    let mut garbler = StreamingGarbler::begin_under_seed(&heap, &circuit, &zero_seed())?;
+    let place = RowPair {
+        generator: Label::ZERO,
+        evaluator: Label::ZERO,
+    };
+    let made = garbler.next(&circuit, &mut [place; 2]);
+    equal((made, heap.growths()), (1, 1))
 }

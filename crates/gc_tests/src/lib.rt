@@ -4,8 +4,6 @@
 #![tactic(auto)]
 
 #[cfg(test)]
-mod arrays;
-#[cfg(test)]
 mod file_growth;
 #[cfg(test)]
 mod fixtures;
@@ -18,20 +16,12 @@ mod pools;
 #[cfg(test)]
 mod reading;
 #[cfg(test)]
-mod refusing;
-#[cfg(test)]
 mod reports;
 #[cfg(test)]
 mod shared_stores;
 #[cfg(test)]
 mod sleepers;
 #[cfg(test)]
-mod store_growth;
-#[cfg(test)]
 mod stores;
-#[cfg(test)]
-mod streaming;
-#[cfg(test)]
-mod ways;
 #[cfg(test)]
 mod workers;

@@ -1,12 +1,12 @@
-//! Tests of task pools: what is pushed is handed out, full pools, and missing thieves.
+//! Tests of task pools: what is pushed is handed out, full pools, missing thieves, and each growth of opening one.
 
 ghost use Rattle.std.specs.Prelude.{◌≡◌, IfSome, OnOk};
 ghost use Rattle.gc_work.specs.Pool.{AllOf};
 
-use gc_circuit::Operation;
+use gc_circuit::{Memory, Operation};
 use gc_fixtures::compare::equal;
 use gc_fixtures::files::zero_seed;
-use gc_fixtures::growths::{Answer, plain_if, refusals_met};
+use gc_fixtures::growths::{Answer, answer_of, refusals_met, runs_refused};
 use gc_fixtures::refusing::Refusing;
 use gc_label::{Label, offset};
 use gc_store::Task;
@@ -101,6 +101,16 @@ fn pool_hands_out_without_thieves(rt: HostRuntime) -> Result<(), Fail> {
     equal(gates, [Some(2), Some(1), Some(0), None])
 }
 
+/// What opening a pool with three thieves returned.
+fn opens(heap: &Refusing<Global>) -> Answer {
+    answer_of(TaskPool::open(heap, 2, 3), Memory)
+}
+
+#[test]
+fn opening(rt: HostRuntime) -> Result<(), Fail> {
+    equal(runs_refused(rt.alloc(), opens), Ok(4))
+}
+
 /// Takes the last thief away.
 fn take_one<A: Allocator>(pool: &TaskPool<A>, thieves: &mut Vec<Thief<A>, A>) -> Option<Thief<A>>
     requires { AllOf pool.now thieves.old.items }
@@ -184,7 +194,11 @@ fn fills(heap: &Refusing<Global>) -> Answer {
         None => pushed == 64 && heap.refused() == 0,
         Some(refused) => pushed >= 2 && refused.task == task(pushed) && heap.refused() == 1,
     };
-    plain_if(is_right && hands_out_all(pool, owner, thieves, pushed) == Some(true))
+    if is_right && hands_out_all(pool, owner, thieves, pushed) == Some(true) {
+        Answer::Plain
+    } else {
+        Answer::Other
+    }
 }
 
 /// A full pool grows where memory is there, and refuses a task where none is. It takes none for the first pushes.

@@ -1,24 +1,21 @@
 //! Tests of reports at a store: when they come, and from which thread.
 
-use crate::fixtures::{Shape, garbles, read};
+use crate::fixtures::{Shape, garble_by, pause, read};
 use gc_circuit::Circuit;
 use gc_fixtures::calling::Calling;
 use gc_fixtures::files::zero_seed;
-use gc_fixtures::waiting::pause;
 use gc_work::garble;
 use gc_workers::Gatehouse;
-use std::alloc::{AllocError, Global};
-use std::sync::atomic::{AtomicBool, AtomicU64, Ordering};
+use std::alloc::Global;
+use std::sync::atomic::{AtomicU64, Ordering};
 use std::test::Fail;
 
-/// How many groups of gates there are, how many gates a group has, and which of them is its head.
-const GROUPS: u32 = 40;
-
+/// How many gates a group has, and which of them is its head.
 const GROUP: u32 = 50;
 
 const HEAD: u32 = 9;
 
-/// Groups of AND gates: a chain of ten gates, and forty gates that read what the last of these sets, the head.
+/// Forty groups of AND gates: a chain of ten gates, and forty gates that read what the last of these sets, the head.
 fn fans(alloc: Global) -> Result<Circuit, Fail> {
     let mut text = String::from_str(alloc, "2000 2040\n1 40\n1 1\n")?;
     for gate in 0..2000u64 {
@@ -36,34 +33,19 @@ fn fans(alloc: Global) -> Result<Circuit, Fail> {
 /// Pauses before it lets a head pass, and counts the gates that read a head's wire and come before it passed.
 #[derive(Drop)]
 struct Heads {
-    passed: Vec<AtomicBool>,
+    // Bit g is set once the head of group g has passed.
+    passed: AtomicU64,
     early: AtomicU64,
-}
-
-impl Heads {
-    /// No head has passed.
-    fn new(alloc: Global) -> Result<Heads, AllocError> {
-        let mut passed = Vec::with_capacity(alloc, GROUPS as usize)?;
-        for _group in 0..GROUPS {
-            passed.push(AtomicBool::new(false))?;
-        }
-        Ok(Heads {
-            passed,
-            early: AtomicU64::new(0),
-        })
-    }
 }
 
 impl Gatehouse for Heads {
     fn before(&self, _worker: u32, gate: u32) {
-        let Some(passed) = self.passed.get((gate / GROUP) as usize) else {
-            return;
-        };
+        let bit = 1u64 << (gate / GROUP % 64);
         let place = gate % GROUP;
         if place == HEAD {
             pause();
-            passed.store(true, Ordering::SeqCst);
-        } else if place > HEAD && !passed.load(Ordering::SeqCst) {
+            self.passed.fetch_or(bit, Ordering::SeqCst);
+        } else if place > HEAD && self.passed.load(Ordering::SeqCst) & bit == 0 {
             self.early.fetch_add(1, Ordering::SeqCst);
         }
     }
@@ -73,7 +55,10 @@ impl Gatehouse for Heads {
 #[test]
 fn a_gate_is_reported_before_it_is_handed_in(rt: HostRuntime) -> Result<(), Fail> {
     let circuit = fans(rt.alloc())?;
-    let observer = Heads::new(rt.alloc())?;
+    let observer = Heads {
+        passed: AtomicU64::new(0),
+        early: AtomicU64::new(0),
+    };
     garble(&rt, rt.alloc(), &circuit, &zero_seed(), 4, &observer)?;
     assert!(rt; observer.early.load(Ordering::SeqCst) == 0);
     Ok(())
@@ -84,7 +69,7 @@ fn a_gate_is_reported_before_it_is_handed_in(rt: HostRuntime) -> Result<(), Fail
 fn worker_0_is_the_calling_thread(rt: HostRuntime) -> Result<(), Fail> {
     for shape in [Shape::Adder, Shape::Chains(64, 32)] {
         let observer = Calling::new(rt)?;
-        assert!(rt; garbles(&rt, shape, 4, &observer)?);
+        garble_by(&rt, shape, 4, &observer)?;
         assert!(rt; observer.is_worker_0());
     }
     Ok(())

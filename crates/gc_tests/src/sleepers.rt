@@ -3,11 +3,10 @@
 
 ghost use Rattle.gc_store.specs.Account.{IsForStore};
 
-use crate::fixtures::{ledger, read};
+use crate::fixtures::{ledger, pause, read};
 use gc_circuit::Circuit;
 use gc_fixtures::compare::equal;
 use gc_fixtures::files::zero_seed;
-use gc_fixtures::waiting::{pause, reaches};
 use gc_store::{BATCH_SIZE, Batch, Sealed, SharedStore, Store, Tally, Task};
 use std::alloc::Global;
 use std::marker::Brand;
@@ -16,7 +15,7 @@ use std::sync::atomic::{AtomicBool, AtomicU64, Ordering};
 use std::sync::ledger::{Blank, Ledger};
 use std::test::Fail;
 use std::thread;
-use std::thread::Threads;
+use std::thread::{Threads, yield_now};
 
 /// How many threads sleep.
 const SLEEPERS: usize = 3;
@@ -29,6 +28,17 @@ fn fan(alloc: Global, readers: u32) -> Result<Circuit, Fail> {
         text.push_str(format!(in alloc; "2 1 1 0 {} AND\n", reader + 2)?.as_str())?;
     }
     read(alloc, text.as_str())
+}
+
+/// Waits until a count is at least this high, with a bound. Returns whether it is.
+fn reaches(count: &AtomicU64, wanted: u64) -> bool {
+    for _turn in 0..20_000_000u64 {
+        if count.load(Ordering::SeqCst) >= wanted {
+            return true;
+        }
+        yield_now();
+    }
+    false
 }
 
 /// What a thread that slept is given.
@@ -53,20 +63,11 @@ struct Fixture<L: Ledger> {
     given: AtomicU64,
     // Whether the last gate is about to be handed in.
     is_last: AtomicBool,
+    // How many threads were given what they should be, the one that works among them.
+    right: AtomicU64,
 }
 
 impl<L: Ledger> Fixture<L> {
-    /// Nobody has come yet.
-    fn new(store: Store<L>, first: Task) -> Fixture<L> {
-        Fixture {
-            shared: SharedStore::new(store),
-            first,
-            asking: AtomicU64::new(0),
-            given: AtomicU64::new(0),
-            is_last: AtomicBool::new(false),
-        }
-    }
-
     /// Asks for a task, and hands in what is given.
     fn ask(&self, rt: &impl Wait, tally: &mut Tally<L>) -> Given {
         self.asking.fetch_add(1, Ordering::SeqCst);
@@ -126,36 +127,29 @@ impl<L: Ledger> Fixture<L> {
     }
 }
 
-/// A thread at a store: its tally, and whether it is given what it should be.
-#[derive(Drop)]
-struct Participant<L: Ledger> {
-    tally: Tally<L>,
-    is_right: bool,
-}
-
-/// The thread that works and those that sleep, each with a tally of the store.
-fn threads_of<L: Ledger>(alloc: Global, store: &mut Store<L>) -> Option<Vec<Participant<L>>> {
-    let mut threads = Vec::new(alloc);
-    for _thread in 0..SLEEPERS + 1 {
-        let tally = store.tally()?;
-        let is_right = false;
-        threads.push(Participant { tally, is_right }).ok()?;
-    }
-    Some(threads)
-}
-
-/// A store of this circuit whose first gate is claimed, and its threads.
+/// A store of this circuit whose first gate is claimed, and a tally for each of its threads.
 fn open<L: Ledger>(
     alloc: Global,
     ledger: Blank,
     circuit: Circuit,
-) -> Option<(Fixture<L>, Vec<Participant<L>>)>
+) -> Option<(Fixture<L>, Vec<Tally<L>>)>
     requires { IsForStore L.name L.parts ledger }
 {
     let mut store = Store::<L, Global>::open(alloc, ledger, circuit, zero_seed()).ok()?;
     let first = store.claim()?;
-    let threads = threads_of(alloc, &mut store)?;
-    Some((Fixture::new(store, first), threads))
+    let mut tallies = Vec::new(alloc);
+    for _thread in 0..SLEEPERS + 1 {
+        tallies.push(store.tally()?).ok()?;
+    }
+    let fixture = Fixture {
+        shared: SharedStore::new(store),
+        first,
+        asking: AtomicU64::new(0),
+        given: AtomicU64::new(0),
+        is_last: AtomicBool::new(false),
+        right: AtomicU64::new(0),
+    };
+    Some((fixture, tallies))
 }
 
 /// Three threads sleep at the store of a fan, while another thread works there. The case is how many readers the fan
@@ -170,20 +164,23 @@ fn are_given<L: Ledger + Send + Sync, R: Threads + Wait + Sync>(
 {
     let (readers, given) = case;
     let opened = open::<L>(alloc, ledger, fan(alloc, readers)?);
-    let (fixture, mut threads) = opened.ok_or("a gate is ready")?;
+    let (fixture, mut tallies) = opened.ok_or("a gate is ready")?;
     thread::for_each_mut(
         rt,
-        threads.as_mut_slice(),
+        tallies.as_mut_slice(),
         SLEEPERS + 1,
-        &|i: usize, thread: &mut Participant<L>| {
-            thread.is_right = if i == 0 {
-                fixture.work(rt, &mut thread.tally, given)
+        &|i: usize, tally: &mut Tally<L>| {
+            let is_right = if i == 0 {
+                fixture.work(rt, tally, given)
             } else {
-                fixture.ask(rt, &mut thread.tally) == given
+                fixture.ask(rt, tally) == given
             };
+            fixture
+                .right
+                .fetch_add(u64::from(is_right), Ordering::SeqCst);
         },
     );
-    Ok(threads.iter().all(|thread| thread.is_right))
+    Ok(fixture.right.load(Ordering::SeqCst) == SLEEPERS as u64 + 1)
 }
 
 /// One hand-in that makes more gates ready than a batch holds wakes one of three threads that sleep, and what that one

@@ -14,7 +14,6 @@ use Rattle.gc_fixtures.proofs.Fields.{Lasts, lasts, alive, framed, Stays, stay_d
 use Rattle.gc_fixtures.proofs.Fields.{Goes-dropped, Al, Answer, answer_val, Answer-err}
 use Rattle.gc_fixtures.proofs.Fields.{Answer-typed, Takes, token, proved, leaves, Refuser, inner_at}
 use Rattle.gc_fixtures.proofs.Fields.{tally_at, lends_fields, pointer_laws, Vals}
-use contract.Monad.{fact}
 use types.Part.{agg}
 use denote.Laws.{shows}
 use denote.Triple.Spec.{triple_of}
@@ -24,7 +23,6 @@ use Rattle.std.proofs.alloc.Shapes.{after}
 use Rattle.std.proofs.result.Result.TheLaws.{the_row_laws as result_laws}
 use Rattle.std.proofs.alloc.AllocError.TheLaws.{the_row_laws as alloc_error_laws}
 use Rattle.std.specs.contracts.alloc.AllocError as alloc_error
-use Rattle.gc_fixtures.specs.Refusals.{AnswersSomeGrowth}
 use Rattle.gc_fixtures.specs.contracts.refusing.Tally as tally
 use Rattle.gc_fixtures.specs.contracts.refusing.Tally.refuses_next as counts
 use Rattle.gc_fixtures.proofs.refusing.Tally.refuses_next.Met.{met}
@@ -97,7 +95,7 @@ allocate_spec 𝓤 𝓛 𝓜 𝓡 wired B laws g d e bound _ =
     use1 𝓛 (later (some (λ (refused : Bool).
     ((‵ (flft κs.0 qs.0) ⊛ ‵ ftrue) ⊛ ‵ (bool.own_val refused (v ∷ [])))
     ⊛ some (λ (ws : Lasts counts.ended x.0.0 x.0.3). ‵ (lasts counts.ended x.0.0 x.0.3 ws)
-    ⊛ raw (fact 𝓤 (AnswersSomeGrowth a.0.now.tally.refusal refused)))))) (id⊢ 𝓤 (Count.post x v)) $
+    ⊛ ‵ ftrue)))) (id⊢ 𝓤 (Count.post x v)) $
     await ! tt $ pick ! (λ refused. split ! $ move ! (1 ∷ []) $ drop ! $ split ! $ split ! $
     move ! (1 ∷ []) $ drop ! $ move ! (1 ∷ []) $ feq_l ! (λ is_bool. join ! $
     use1 𝓛 (raw (alive 𝓛 S κs qs)) (id⊢ 𝓤 _) $ lands_as ! (ap only is_bool) refl (tt, tt) $
