@@ -1,5 +1,5 @@
 -- What an audit of a label file finds, from what it finds of the labels.
-use Rattle.gc_audit.proofs.Names.{◌≡◌, ◌≢◌, ◌↔◌, ℕ, zero, suc, ◌+◌, ◌<◌, Bool, true, false, List, [], ◌∷◌, ◌++◌, length, length-append, take, slice_get, get_or, ltb, Some, refl, sym, ap, subst, ◌∙◌, arith, take_more, slice_get_within, slice_get_read, get_or_from_slice_get, IsTrue, Netlist, input_wires, encode, GarblingParts, LabelFileParts, encoded_with, Bits, WrongLabel, WrongWidth, NoValue, first_wire_of, HasInputLabels, IsDealtWith, IsFirstWrong, IsVerdictWith, AreCompared, HasBits}
+use Rattle.gc_audit.proofs.Names.{◌≡◌, ◌≢◌, ◌↔◌, ℕ, zero, suc, ◌+◌, ◌<◌, Bool, true, false, List, [], ◌∷◌, ◌++◌, length, length-append, take, slice_get, get_or, ltb, Some, refl, sym, ap, subst, ◌∙◌, arith, take_more, slice_get_within, slice_get_read, get_or_from_slice_get, IsTrue, Netlist, input_wires, encode, GarblingParts, LabelFileParts, encoded_with, Bits, WrongLabel, WrongWidth, NoValue, first_wire_of, HasInputLabels, IsDealtWith, IsFirstWrong, IsVerdictWith, IsVerdictFrom, HasBits}
 use borrow.Author.Tests.{ltb-true}
 use Rattle.gc_circuit.specs.Meaning.{xor}
 use Rattle.gc_label.specs.Label.{colour}
@@ -138,7 +138,7 @@ module _ (c : Netlist) (offset : ℕ) (odd : IsTrue (colour offset))
   pub compared-verdict : {A : Type 0} (verdict : LabelsVerdict A) (first index : ℕ)
       → slice_get c.input_widths file.index ≡ Some (length file.labels)
       → first ≡ first_wire_of c index → index ≡ file.index
-      → AreCompared offset zero_label first file.labels verdict
+      → IsVerdictFrom offset zero_label first file.labels verdict
       → IsVerdictWith c offset zero_label file verdict
   compared-verdict NoValue first index width place same is = absurd is
   compared-verdict WrongWidth first index width place same is = absurd is

@@ -4,7 +4,7 @@ pub use Rattle.std.proofs.lemmas.List.{take_all, take_more_same, take_more}
 pub use Rattle.std.proofs.lemmas.Option.{slice_get_within, get_or_from_slice_get, slice_get-get_or, slice_get_read}
 pub use Rattle.gc_audit.specs.Difference.{DifferFirstAt}
 pub use Rattle.gc_audit.specs.Entries.{named, DifferFirstIn, IsEntryDifference}
-pub use Rattle.gc_audit.specs.Labels.{first_wire_of, HasInputLabels, IsDealtWith, IsFirstWrong, IsVerdictWith, AreCompared, HasBits}
+pub use Rattle.gc_audit.specs.Labels.{first_wire_of, HasInputLabels, IsDealtWith, IsFirstWrong, IsVerdictWith, IsVerdictFrom, HasBits}
 pub use Rattle.gc_audit.specs.Rows.{IsRowDifference, DifferIn, IsAndGate}
 pub use Rattle.gc_audit.specs.declared.labels.LabelsVerdict.TheVariants.{Bits, WrongLabel, WrongWidth, NoValue}
 pub use Rattle.gc_file.specs.Honest.{honest_parts, honest_parts_with, version_entries}

@@ -61,12 +61,12 @@ IsLabelsVerdict c seed file verdict =
     IsVerdictWith c (offset_of seed) (input_label_of seed) file verdict
 
 -- What is found of labels that are those of an input value, from its first wire on.
-abbrev pub AreCompared : {A : Type 0} → ℕ → (ℕ → ℕ) → ℕ → List ℕ → LabelsVerdict A → Type 0
-AreCompared offset zero_label first labels NoValue = ⊥
-AreCompared offset zero_label first labels WrongWidth = ⊥
-AreCompared offset zero_label first labels (WrongLabel wire) =
+abbrev pub IsVerdictFrom : {A : Type 0} → ℕ → (ℕ → ℕ) → ℕ → List ℕ → LabelsVerdict A → Type 0
+IsVerdictFrom offset zero_label first labels NoValue = ⊥
+IsVerdictFrom offset zero_label first labels WrongWidth = ⊥
+IsVerdictFrom offset zero_label first labels (WrongLabel wire) =
     IsFirstWrong offset zero_label first labels wire
-AreCompared offset zero_label first labels (Bits bits) =
+IsVerdictFrom offset zero_label first labels (Bits bits) =
     labels ≡ encoded_with offset zero_label first bits.items
 
 -- The verdict is these bits.

@@ -5,7 +5,7 @@ ghost use Rattle.gc_netlist.specs.Circuit.{input_wires};
 ghost use Rattle.gc_half.specs.Evaluation.{encode};
 ghost use Rattle.gc_half.specs.Comparing.{HasLabels};
 ghost use Rattle.gc_half.specs.Garbling.{FitsCircuit};
-ghost use Rattle.gc_audit.specs.Labels.{IsLabelsVerdict, IsVerdictWith, IsDealt, IsDealtWith, HasBits, HasInputLabels, AreCompared};
+ghost use Rattle.gc_audit.specs.Labels.{IsLabelsVerdict, IsVerdictWith, IsDealt, IsDealtWith, HasBits, HasInputLabels, IsVerdictFrom};
 
 use crate::reference::{Reference, SeedReference};
 use gc_circuit::Memory;
@@ -95,7 +95,7 @@ fn compare<A: Allocator, B: Allocator, C: Allocator>(
     requires wires { first + length filed.now ≤ input_wires of.now.circuit.now }
     ensures { (zero_label : ℕ → ℕ)
         → HasInputLabels of.now.circuit.now of.now.garbling.now zero_label
-        → IfOk result (AreCompared of.now.offset zero_label first filed.now) }
+        → IfOk result (IsVerdictFrom of.now.offset zero_label first filed.now) }
 {
     of.circuit.law_lawful();
     let mut bits = Vec::with_capacity(alloc, filed.len())?;

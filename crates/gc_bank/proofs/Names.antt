@@ -1,10 +1,10 @@
 -- The names that most proofs of this crate cite, passed on from one place. Declares nothing.
 pub use Rattle.std.proofs.Common.{◌≡◌, ℕ, zero, suc, ◌+◌, ◌⊎◌, inl, ⊎_elim, Bool, List, [], ◌∷◌, ◌++◌, length, slice_get, get_or, Option, Some, None, IfSome, Ok, Err, arith, ◌≢◌, ◌*◌, ◌%◌, ◌<◌, ◌≤◌, refl, ap, ◌∙◌, subst, rules, append_assoc, length-append, sym, inr, MatchOption, take, Vec, map, ◌-◌, All, ◌^◌, min, option_copied}
 pub use Rattle.std.proofs.lemmas.Option.{slice_get-get_or, slice_get_read, slice_get_within}
-pub use Rattle.gc_bank.specs.Rounds.{gates_of, IsRound}
+pub use Rattle.gc_bank.specs.Rounds.{gates_of_each, IsRound}
 pub use Rattle.gc_bank.specs.Seats.{InRound, round_in, IsNew, view, jobs_on, IsSeatOf}
 pub use Rattle.gc_bank.specs.Views.{Seen, Answers, AnswersTwo, AnswersFour}
-pub use Rattle.gc_bank.specs.Workers.{IsWorkerOf, AreWorkersOf, IsKept, IsWorkerAt}
+pub use Rattle.gc_bank.specs.Workers.{IsWorkerOf, AreWorkersOf, HasRoundBits, IsWorkerAt}
 pub use Rattle.gc_bank.specs.declared.seat.BankSeat.{BankSeat}
 pub use Rattle.gc_workers.proofs.Sums.{total-append}
 pub use Rattle.gc_workers.specs.Counts.{total}

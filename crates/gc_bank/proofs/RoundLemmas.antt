@@ -9,11 +9,11 @@ use Rattle.gc_steps.specs.declared.answer.Answer.{Answer}
 use Rattle.gc_steps.specs.declared.answer.Answer.TheVariants.{Made, Done, Taken, NotYet}
 use Rattle.gc_steps.specs.Walks.{made_now}
 use Rattle.gc_steps.specs.Views.{made_after}
-use Rattle.gc_bank.specs.Rounds.{gates_of}
+use Rattle.gc_bank.specs.Rounds.{gates_of_each}
 
 -- a seat of the banks is one of their table
 pub place_of : {S : Type 0} {table : TableId} {key : Key (List JobParts)} {seat : Seat S Seen}
-    → IsGatePlace two_banks gates_of table key seat → IsPlaceOf table key seat
+    → IsGatePlace two_banks gates_of_each table key seat → IsPlaceOf table key seat
 place_of p = record {
   fits = record { words = omega (arith, p.words); slots = p.slots };
   table_id = p.table_id;

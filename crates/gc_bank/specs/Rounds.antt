@@ -10,8 +10,8 @@ abbrev pub gates_by : Option JobParts → ℕ
 gates_by None = 0
 gates_by (Some job) = gates_in job
 
-abbrev pub gates_of : List JobParts → ℕ
-gates_of jobs = gates_by (slice_get jobs 0)
+abbrev pub gates_of_each : List JobParts → ℕ
+gates_of_each jobs = gates_by (slice_get jobs 0)
 
 -- The number is half k of the active label of the wire that gate g sets, in this job.
 abbrev pub IsRightBy : Option JobParts → ℕ → ℕ → ℕ → Type 0
@@ -25,13 +25,13 @@ IsRightIn jobs r g k n = IsRightBy (slice_get jobs r) g k n
 -- The job is that of round r, on the circuit of all.
 pub record IsRound (jobs : List JobParts) (r : ℕ) (job : JobParts) : Type 0 where
   pub at : slice_get jobs r ≡ Some job
-  pub gates : gates_in job ≡ gates_of jobs
+  pub gates : gates_in job ≡ gates_of_each jobs
 
 -- the job of round r
-abbrev pub job_of : List JobParts → ℕ → Option JobParts
-job_of jobs r = slice_get jobs r
+abbrev pub round_job : List JobParts → ℕ → Option JobParts
+round_job jobs r = slice_get jobs r
 
-pub series_law : JobsLaw IsRightIn job_of
+pub series_law : JobsLaw IsRightIn round_job
 series_law = record {
   gives = λ w r job is g k n it. subst (λ o. IsRightBy o g k n) is it;
   takes = λ w r job is g k n it. subst (λ o. IsRightBy o g k n) (sym is) it;

@@ -7,7 +7,7 @@ use Rattle.gc_gates.specs.Places.{IsGatePlace}
 use Rattle.gc_gates.specs.Layout.{two_banks}
 use Rattle.gc_rounds.specs.Places.{IsSamePlace}
 use Rattle.gc_job.specs.Job.{JobParts}
-use Rattle.gc_bank.specs.Rounds.{gates_of}
+use Rattle.gc_bank.specs.Rounds.{gates_of_each}
 use Rattle.gc_bank.specs.Views.{Seen}
 use Rattle.gc_bank.specs.declared.seat.BankSeat.{BankSeat}
 use Rattle.gc_bank.specs.declared.seat.Banks.{Banks}
@@ -28,7 +28,8 @@ module _ {A B C : Type 0} where
   -- The seat belongs to the banks.
   abbrev pub IsSeatOf : Banks B A C → BankSeat B A C → Type 0
   IsSeatOf banks seat =
-      IsGatePlace two_banks gates_of banks.board.table.shared.table_id banks.board.table.shared.key
+      IsGatePlace two_banks gates_of_each banks.board.table.shared.table_id
+      banks.board.table.shared.key
       seat.place
 
   -- It is the same seat.
@@ -41,16 +42,16 @@ round_in Outside = 0
 round_in (Inside r) = r
 round_in (Passing b) = 0
 
-abbrev pub round_of : Seen → ℕ
-round_of v = round_in v.position
+abbrev pub seat_round : Seen → ℕ
+seat_round v = round_in v.position
 
 -- The seat is inside a round.
 abbrev pub IsInside : Seen → Type 0
-IsInside v = v.position ≡ Inside (round_of v)
+IsInside v = v.position ≡ Inside (seat_round v)
 
 -- The round that the seat is inside has a job, of which this holds.
 abbrev pub InRound : List JobParts → Seen → (JobParts → Type 0) → Type 0
-InRound jobs v holds = MatchOption (slice_get jobs (round_of v)) ⊥ holds
+InRound jobs v holds = MatchOption (slice_get jobs (seat_round v)) ⊥ holds
 
 -- A seat that has done nothing.
 pub record IsNew (v : Seen) : Type 0 where

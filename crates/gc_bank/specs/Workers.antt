@@ -6,20 +6,20 @@ use Rattle.gc_netlist.specs.Solution.{on_outputs}
 use Rattle.gc_job.specs.Job.{JobParts}
 use Rattle.gc_job.specs.ActiveLabels.{active}
 use Rattle.gc_job.specs.Jobs.{AreBitsOf}
-use Rattle.gc_bank.specs.Rounds.{gates_of}
+use Rattle.gc_bank.specs.Rounds.{gates_of_each}
 use Rattle.gc_bank.specs.Seats.{IsSeatOf, view, jobs_on}
 use Rattle.gc_bank.specs.declared.seat.Banks.{Banks}
-use Rattle.gc_bank.specs.declared.worker.Outputs.{Outputs}
+use Rattle.gc_bank.specs.declared.worker.RoundOutputs.{RoundOutputs}
 use Rattle.gc_bank.specs.declared.worker.Worker.{Worker}
 
 -- The labels are the active ones of the output wires of the job at this place.
-abbrev pub AreLabelsOf : List JobParts → ℕ → List ℕ → Type 0
-AreLabelsOf jobs k labels =
+abbrev pub AreOutputLabelsOf : List JobParts → ℕ → List ℕ → Type 0
+AreOutputLabelsOf jobs k labels =
     (job : JobParts) → slice_get jobs k ≡ Some job → labels ≡ on_outputs job.circuit (active job)
 
 -- The output bits that a worker kept are those of their round's job.
-abbrev pub IsKept : {B : Type 0} → List JobParts → Outputs B → Type 0
-IsKept jobs kept = AreBitsOf jobs kept.round kept.bits.items
+abbrev pub HasRoundBits : {B : Type 0} → List JobParts → RoundOutputs B → Type 0
+HasRoundBits jobs kept = AreBitsOf jobs kept.round kept.bits.items
 
 module _ {A B C : Type 0} where
   -- The worker has a seat of these banks, which is here, it walks over the gates of their circuit, and what it kept is
@@ -28,8 +28,8 @@ module _ {A B C : Type 0} where
       : Type 0 where
     pub seat_of : IsSeatOf banks worker.seat
     pub stands : (view worker.seat).position ≡ here
-    pub gates : worker.walk.gates ≡ gates_of (jobs_on banks)
-    pub kept : All (IsKept (jobs_on banks)) worker.kept.items
+    pub gates : worker.walk.gates ≡ gates_of_each (jobs_on banks)
+    pub kept : All (HasRoundBits (jobs_on banks)) worker.kept.items
 
   -- Between two rounds its seat is outside.
   abbrev pub IsWorkerOf : Banks B A C → Worker B A C → Type 0

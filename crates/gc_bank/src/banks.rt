@@ -6,7 +6,7 @@ ghost use Rattle.gc_rounds.specs.declared.view.Position.TheVariants.{Outside, In
 ghost use Rattle.gc_rounds.specs.Calls.{Enters, EntersAlone, Leaves, Seals, Reopens};
 ghost use Rattle.gc_job.specs.ActiveLabels.{gates_of};
 ghost use Rattle.gc_bank.specs.Views.{Stays, Answers, AnswersTwo, AnswersFour, AnswersAlone, AnswersTwoAlone, Ran, Got, Lacks};
-ghost use Rattle.gc_bank.specs.Seats.{IsSeatOf, IsSameSeat, IsInside, InRound, view, round_of, jobs_on, seats_on};
+ghost use Rattle.gc_bank.specs.Seats.{IsSeatOf, IsSameSeat, IsInside, InRound, view, seat_round, jobs_on, seats_on};
 
 use crate::seat::{BankSeat, Banks};
 use gc_label::Label;
@@ -65,10 +65,10 @@ impl<'j, 'c, B: Allocator, A: Allocator, C: Allocator> Banks<'j, 'c, B, A, C> {
         ensures same { IsSameSeat seat.old seat.new }
         ensures stays { Stays (view seat.old) (view seat.new) }
         ensures answer { InRound (jobs_on self.now) (view seat.old)
-            (λ job. Answers job (round_of (view seat.old)) gate 11 (view seat.old)
+            (λ job. Answers job (seat_round (view seat.old)) gate 11 (view seat.old)
             (view seat.new) result) }
         ensures alone { seats_on self.now ≡ 1 → InRound (jobs_on self.now) (view seat.old)
-            (λ job. AnswersAlone job (round_of (view seat.old)) gate (view seat.old) result) }
+            (λ job. AnswersAlone job (seat_round (view seat.old)) gate (view seat.old) result) }
     {
         let Some(round) = seat.inside else {
             unreachable!()
@@ -97,10 +97,10 @@ impl<'j, 'c, B: Allocator, A: Allocator, C: Allocator> Banks<'j, 'c, B, A, C> {
         ensures same { IsSameSeat seat.old seat.new }
         ensures stays { Stays (view seat.old) (view seat.new) }
         ensures answers { InRound (jobs_on self.now) (view seat.old)
-            (λ job. AnswersTwo job (round_of (view seat.old)) first second 22 (view seat.old)
+            (λ job. AnswersTwo job (seat_round (view seat.old)) first second 22 (view seat.old)
             (view seat.new) result) }
         ensures alone { seats_on self.now ≡ 1 → InRound (jobs_on self.now) (view seat.old)
-            (λ job. AnswersTwoAlone job (round_of (view seat.old)) first second
+            (λ job. AnswersTwoAlone job (seat_round (view seat.old)) first second
             (view seat.old) result) }
     {
         let Some(round) = seat.inside else {
@@ -130,7 +130,7 @@ impl<'j, 'c, B: Allocator, A: Allocator, C: Allocator> Banks<'j, 'c, B, A, C> {
         ensures same { IsSameSeat seat.old seat.new }
         ensures stays { Stays (view seat.old) (view seat.new) }
         ensures answers { InRound (jobs_on self.now) (view seat.old)
-            (λ job. AnswersFour job (round_of (view seat.old)) gates.a gates.b gates.c gates.d 72
+            (λ job. AnswersFour job (seat_round (view seat.old)) gates.a gates.b gates.c gates.d 72
             (view seat.old) (view seat.new) result) }
     {
         let Some(round) = seat.inside else {
@@ -154,9 +154,9 @@ impl<'j, 'c, B: Allocator, A: Allocator, C: Allocator> Banks<'j, 'c, B, A, C> {
         ensures same { IsSameSeat seat.old seat.new }
         ensures ran { Ran (view seat.old) (view seat.new) (view seat.old).inner.made 3 }
         ensures some { IfSome result (λ label. InRound (jobs_on self.now) (view seat.old)
-            (λ job. Got job (round_of (view seat.old)) wire (view seat.new) label)) }
+            (λ job. Got job (seat_round (view seat.old)) wire (view seat.new) label)) }
         ensures none { IfNone result (InRound (jobs_on self.now) (view seat.old)
-            (λ job. Lacks job (round_of (view seat.old)) wire (view seat.old) (view seat.new))) }
+            (λ job. Lacks job (seat_round (view seat.old)) wire (view seat.old) (view seat.new))) }
     {
         let Some(round) = seat.inside else {
             unreachable!()
@@ -170,7 +170,7 @@ impl<'j, 'c, B: Allocator, A: Allocator, C: Allocator> Banks<'j, 'c, B, A, C> {
         requires inside { IsInside (view seat.old) }
         ensures own { IsSeatOf self.now seat.new }
         ensures same { IsSameSeat seat.old seat.new }
-        ensures left { Leaves (round_of (view seat.old)) (view seat.old) (view seat.new) }
+        ensures left { Leaves (seat_round (view seat.old)) (view seat.old) (view seat.new) }
     {
         let Some(round) = seat.inside else {
             unreachable!()
@@ -186,7 +186,7 @@ impl<'j, 'c, B: Allocator, A: Allocator, C: Allocator> Banks<'j, 'c, B, A, C> {
         requires inside { IsInside (view seat.old) }
         ensures own { IsSeatOf self.now seat.new }
         ensures same { IsSameSeat seat.old seat.new }
-        ensures sealed { Seals (round_of (view seat.old)) (view seat.old) (view seat.new) }
+        ensures sealed { Seals (seat_round (view seat.old)) (view seat.old) (view seat.new) }
     {
         let Some(round) = seat.inside else {
             unreachable!()

@@ -7,7 +7,7 @@ ghost use Rattle.gc_gates.specs.Pairs.{pairs};
 ghost use Rattle.gc_gates.specs.Layout.{two_banks};
 ghost use Rattle.gc_gates.specs.Places.{IsGatePlace};
 ghost use Rattle.gc_bank.specs.Jobs.{AreOnOneCircuit};
-ghost use Rattle.gc_bank.specs.Rounds.{gates_of};
+ghost use Rattle.gc_bank.specs.Rounds.{gates_of_each};
 ghost use Rattle.gc_bank.specs.Seats.{IsSeatOf, IsNew, view, jobs_on, seats_on};
 
 use crate::seat::{BankSeat, Banks};
@@ -25,12 +25,12 @@ fn deal_all<B: Allocator, A: Allocator, C: Allocator>(
     count: u32,
     mut seats: Vec<BankSeat<B, A, C>, B>,
 ) -> Result<Vec<BankSeat<B, A, C>, B>, OpenFault>
-    requires first { IsGatePlace two_banks gates_of words.now.table_id words.now.key first
+    requires first { IsGatePlace two_banks gates_of_each words.now.table_id words.now.key first
         × IsNew first.me.0 × (first.me.1 ≡ []) × (first.me.0.seats ≡ count) }
     requires some { 0 < count }
     requires none { seats.items ≡ [] }
     ensures { IfOk result (λ v. (length v.items ≡ count)
-        × All (λ s. IsGatePlace two_banks gates_of words.now.table_id words.now.key s.place
+        × All (λ s. IsGatePlace two_banks gates_of_each words.now.table_id words.now.key s.place
         × IsNew s.place.me.0) v.items) }
 {
     let mut left = count;
@@ -171,10 +171,11 @@ fn gather<B: Allocator, A: Allocator, C: Allocator>(
     mut seats: Vec<BankSeat<B, A, C>, B>,
 ) -> Place<Series<B, A, C>>
     requires own { All
-        (λ s. IsGatePlace two_banks gates_of words.now.table_id words.now.key s.place) seats.items }
+        (λ s. IsGatePlace two_banks gates_of_each words.now.table_id words.now.key s.place)
+        seats.items }
     requires outside { All (λ s. (view s).position ≡ Outside) seats.items }
     requires some { 0 < length seats.items }
-    ensures at { IsGatePlace two_banks gates_of words.now.table_id words.now.key result }
+    ensures at { IsGatePlace two_banks gates_of_each words.now.table_id words.now.key result }
     ensures seats { result.me.0.seats ≡ length seats.items }
     ensures made { (r g : ℕ) → pairs r g result.me.0.inner.made
         ≡ total (λ s. pairs r g (view s).inner.made) seats.items }

@@ -22,17 +22,17 @@ impl<B: Allocator, A: Allocator, C: Allocator> Model for Series<B, A, C> {
 }
 
 impl<B: Allocator, A: Allocator, C: Allocator> Subject for Series<B, A, C> {
-    ghost use Rattle.gc_bank.specs.Rounds.{gates_of, IsRightIn};
+    ghost use Rattle.gc_bank.specs.Rounds.{gates_of_each, IsRightIn};
 
-    ghost gates = { gates_of };
+    ghost gates = { gates_of_each };
 
     ghost right = { IsRightIn };
 }
 
 impl<B: Allocator, A: Allocator, C: Allocator> Jobs for Series<B, A, C> {
-    ghost use Rattle.gc_bank.specs.Rounds.{job_of, series_law};
+    ghost use Rattle.gc_bank.specs.Rounds.{round_job, series_law};
 
-    ghost job_at = { job_of };
+    ghost job_at = { round_job };
 
     ghost laws = { series_law };
 }

@@ -9,7 +9,7 @@ ghost use Rattle.gc_job.specs.Jobs.{AreBitsOf, AreKnown};
 ghost use Rattle.gc_bank.specs.Workers.{IsWorkerOf, AreWorkersOf};
 
 use crate::seat::Banks;
-use crate::worker::{Outputs, Worker, workers_of};
+use crate::worker::{RoundOutputs, Worker, workers_of};
 use gc_job::{Job, none_known};
 use gc_rounds::MAX_JOBS;
 use gc_workers::{Crew, Gatehouse};
@@ -96,7 +96,7 @@ fn kept_by<B: Allocator, A: Allocator, C: Allocator>(
     ensures { AreKnown (jobs_on banks.now) result.items }
 {
     let mut kept = worker.kept;
-    while let Some(Outputs { round, bits }) = kept.pop() {
+    while let Some(RoundOutputs { round, bits }) = kept.pop() {
         slots = with_bits(slots, round as usize, bits);
     }
     slots

@@ -4,10 +4,10 @@
 ghost use Rattle.std.specs.Prelude.{◌≡◌, ◌+◌, ◌<◌, length, All, IfSome, IfOk};
 ghost use Rattle.gc_rounds.specs.declared.view.Position.TheVariants.{Outside, Inside};
 ghost use Rattle.gc_steps.specs.Walks.{IsWithin, groups_left};
-ghost use Rattle.gc_bank.specs.Rounds.{gates_of};
+ghost use Rattle.gc_bank.specs.Rounds.{gates_of_each};
 ghost use Rattle.gc_bank.specs.Seats.{IsSeatOf, IsNew, view, jobs_on};
 ghost use Rattle.gc_job.specs.Jobs.{AreBitsOf};
-ghost use Rattle.gc_bank.specs.Workers.{AreLabelsOf, IsWorkerAt, IsWorkerOf, AreWorkersOf};
+ghost use Rattle.gc_bank.specs.Workers.{AreOutputLabelsOf, IsWorkerAt, IsWorkerOf, AreWorkersOf};
 
 use crate::seat::{BankSeat, Banks};
 use gc_label::Label;
@@ -23,7 +23,7 @@ const TRIES: u32 = 1 << 20;
 
 /// The output bits of the job of a round.
 #[derive(Drop)]
-pub(crate) struct Outputs<B: Allocator> {
+pub(crate) struct RoundOutputs<B: Allocator> {
     pub(crate) round: u32,
     pub(crate) bits: Vec<bool, B>,
 }
@@ -38,7 +38,7 @@ pub(crate) struct Worker<B: Allocator, A: Allocator, C: Allocator> {
     seat: BankSeat<B, A, C>,
     first: u32,
     walk: Walk<B>,
-    pub(crate) kept: Vec<Outputs<B>, B>,
+    pub(crate) kept: Vec<RoundOutputs<B>, B>,
 }
 
 /// The labels of the output wires of the round, in order, where each has one.
@@ -54,7 +54,7 @@ fn output_labels<B: Allocator + Copy, A: Allocator, C: Allocator>(
     ensures own { IsSeatOf banks.now seat.new }
     ensures inside { (view seat.new).position ≡ Inside round }
     ensures labels { IfOk result
-        (λ o. IfSome o (λ v. AreLabelsOf (jobs_on banks.now) round v.items)) }
+        (λ o. IfSome o (λ v. AreOutputLabelsOf (jobs_on banks.now) round v.items)) }
 {
     let circuit = banks.job(round).circuit();
     let count = circuit.output_wires();
@@ -77,7 +77,7 @@ fn bits_of_round<B: Allocator + Copy, A: Allocator, C: Allocator>(
     labels: &[Label],
 ) -> Option<Vec<bool, B>>
     requires round { round < length (jobs_on banks.now) }
-    requires labels { AreLabelsOf (jobs_on banks.now) round labels.now }
+    requires labels { AreOutputLabelsOf (jobs_on banks.now) round labels.now }
     ensures { IfSome result (λ v. AreBitsOf (jobs_on banks.now) round v.items) }
 {
     let job = banks.job(round);
@@ -114,7 +114,7 @@ impl<B: Allocator, A: Allocator, C: Allocator> Worker<B, A, C> {
     fn step(&mut self, banks: &Banks<'_, '_, B, A, C>, round: u32, group: GateGroup)
         requires worker { IsWorkerAt banks.now (Inside round) self.old }
         requires round { round < length (jobs_on banks.now) }
-        requires group { IsWithin (gates_of (jobs_on banks.now)) group }
+        requires group { IsWithin (gates_of_each (jobs_on banks.now)) group }
         ensures worker { IsWorkerAt banks.now (Inside round) self.new }
         ensures left { groups_left self.new.walk ≡ groups_left self.old.walk }
     {
@@ -173,7 +173,7 @@ impl<B: Allocator + Copy, A: Allocator, C: Allocator> Worker<B, A, C> {
         requires worker { IsWorkerAt banks.now (Inside round) self.old }
         requires round { round < length (jobs_on banks.now) }
         ensures worker { IsWorkerAt banks.now (Inside round) self.new }
-        ensures labels { IfSome result (λ v. AreLabelsOf (jobs_on banks.now) round v.items) }
+        ensures labels { IfSome result (λ v. AreOutputLabelsOf (jobs_on banks.now) round v.items) }
     {
         self.walk.forget();
         for _pass in 0..=banks.job(round).circuit().gates() {
@@ -210,7 +210,7 @@ impl<B: Allocator + Copy, A: Allocator, C: Allocator> Worker<B, A, C> {
     fn keep(&mut self, banks: &Banks<'_, '_, B, A, C>, round: u32, labels: &[Label])
         requires worker { IsWorkerOf banks.now self.old }
         requires round { round < length (jobs_on banks.now) }
-        requires labels { AreLabelsOf (jobs_on banks.now) round labels.now }
+        requires labels { AreOutputLabelsOf (jobs_on banks.now) round labels.now }
         ensures { IsWorkerOf banks.now self.new }
     {
         if let Entry::Inside = banks.enter(&mut self.seat, round) {
@@ -218,7 +218,7 @@ impl<B: Allocator + Copy, A: Allocator, C: Allocator> Worker<B, A, C> {
             banks.leave(&mut self.seat);
             if let Some(bits) = bits_of_round(self.alloc, banks, round, labels) {
                 // One thread evaluates a job whose bits can't be kept.
-                let _ = self.kept.push(Outputs { round, bits });
+                let _ = self.kept.push(RoundOutputs { round, bits });
             }
         }
     }

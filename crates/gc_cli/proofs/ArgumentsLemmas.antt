@@ -7,7 +7,7 @@ use Rattle.std.proofs.lemmas.Slice.Eq.{bytes_eq-Decides}
 use Rattle.gc_disk.specs.Files.{FileBytes}
 use Rattle.gc_cli.specs.declared.arguments.Refusal.{Refusal}
 use Rattle.gc_cli.specs.declared.arguments.Refusal.TheVariants.{NoFile, CannotRead, Memory}
-use Rattle.gc_cli.specs.Arguments.{ArePlain, no_more, one_more, AskForHelp, IsOption, StandFor, StandForThemselves, WordsStandFor, help_last, AreLines, no_line, next_line, IsOneLine, BeginWithFile, IsEnd, IsPlain, FirstStandsFor, plain_word, FrontStandsFor, no_word, next_word, IsRefusedFile, IsRefusedNext, IsRefusedLine}
+use Rattle.gc_cli.specs.Arguments.{ArePlain, no_more, one_more, AskForHelp, IsOption, LineStandsFor, StandForThemselves, WordsStandFor, help_last, AreLines, no_line, next_line, IsOneLine, BeginWithFile, IsEnd, IsPlain, FirstStandsFor, plain_word, FrontStandsFor, no_word, next_word, IsRefusedFile, IsRefusedNext, IsRefusedLine}
 
 -- the front of the words, and then what comes first in the others
 pub front-next : (files : FileBytes) (words mid after given first : List (List ℕ))
@@ -134,7 +134,7 @@ not-help_last (program ∷ first ∷ rest) other =
 
 -- So does a line of them.
 pub themselves-stand : (files : FileBytes) (line : List (List ℕ)) → StandForThemselves line
-    → StandFor files line line
+    → LineStandsFor files line line
 themselves-stand files [] is = refl
 themselves-stand files (program ∷ words) is =
     (words, (sym (not-help_last (program ∷ words) is.0), plain-stand files words is.1))

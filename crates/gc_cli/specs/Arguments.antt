@@ -96,9 +96,9 @@ StandForThemselves [] = Unit {0}
 StandForThemselves (program ∷ words) = ¬ AskForHelp (program ∷ words) × ArePlain words
 
 -- The words of a command line, of which the first is the program's name, stand for these arguments.
-abbrev pub StandFor : FileBytes → List (List ℕ) → List (List ℕ) → Type 0
-StandFor files [] arguments = arguments ≡ []
-StandFor files (program ∷ words) arguments =
+abbrev pub LineStandsFor : FileBytes → List (List ℕ) → List (List ℕ) → Type 0
+LineStandsFor files [] arguments = arguments ≡ []
+LineStandsFor files (program ∷ words) arguments =
     (given : List (List ℕ))
     × ((arguments ≡ help_last (program ∷ given)) × WordsStandFor files words given)
 

@@ -43,10 +43,10 @@ AnswersLines old new (list_labels circuit seed from count values) out =
 AnswersLines old new (audit circuit seed garbled labels) out = ⊥
 
 -- The order is done. `honest` is whether an audit finds the files honest, and true of any other order.
-abbrev pub Answers : FileBytes → FileBytes → OrderText → Bool → List ℕ → Type 0
-Answers old new (audit circuit seed garbled labels) honest out =
+abbrev pub AnswersCommand : FileBytes → FileBytes → OrderText → Bool → List ℕ → Type 0
+AnswersCommand old new (audit circuit seed garbled labels) honest out =
     AnswersAudit old circuit seed garbled labels honest out
-Answers old new order honest out = (honest ≡ true) × AnswersLines old new order out
+AnswersCommand old new order honest out = (honest ≡ true) × AnswersLines old new order out
 
 -- The order has this fault. `Failed` says of a name that its file has failed: that a file can't be read, or written,
 -- has such a cause, whether its bytes are known or not.

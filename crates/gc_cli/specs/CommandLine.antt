@@ -4,7 +4,7 @@ use Rattle.clap.specs.Words.{IsAmong, fault_of, kind_of}
 use Rattle.clap.specs.declared.error.Error.{Error}
 use Rattle.clap.specs.declared.error.kind.ErrorKind.TheVariants.{DisplayHelp, DisplayVersion, OutOfMemory}
 use Rattle.gc_order.specs.declared.order.Asked.{Asked}
-use Rattle.gc_order.specs.Order.{OrderText, explains_in, order_in, program, text_of}
+use Rattle.gc_order.specs.Order.{OrderText, explains_in, order_in, program, order_text}
 
 -- The arguments are an order.
 abbrev pub IsOrder : List (List ℕ) → OrderText → Type 0
@@ -28,5 +28,5 @@ IsRefusal words old new error =
 -- What the arguments ask for: their order, and whether its fault is to be explained; or why they are refused.
 abbrev pub IsAsked : List (List ℕ) → ℕ → ℕ → Result Asked Error → Type 0
 IsAsked words old new (Ok asked) =
-    IsOrder words (text_of asked.order) × (asked.explains ≡ explains_in words)
+    IsOrder words (order_text asked.order) × (asked.explains ≡ explains_in words)
 IsAsked words old new (Err error) = IsRefusal words old new error

@@ -4,6 +4,6 @@ use Rattle.gc_cli.specs.declared.answer.Left.{Left}
 use Rattle.gc_cli.specs.declared.answer.Left.TheVariants.{Made, Labels}
 
 -- their bytes
-abbrev pub bytes_of : {A : Type 0} → Left A → List ℕ
-bytes_of (Made bytes) = bytes.items
-bytes_of (Labels lines) = lines
+abbrev pub left_bytes : {A : Type 0} → Left A → List ℕ
+left_bytes (Made bytes) = bytes.items
+left_bytes (Labels lines) = lines

@@ -7,10 +7,10 @@ use Rattle.gc_order.specs.Order.{OrderText, explains_in}
 use Rattle.gc_disk.specs.Files.{FileBytes}
 use Rattle.gc_command.specs.declared.fault.Fault.{Fault}
 use Rattle.gc_command.specs.declared.fault.Fault.TheVariants.{CannotWrite}
-use Rattle.gc_command.specs.Fault.{text_of}
+use Rattle.gc_command.specs.Fault.{fault_text}
 use Rattle.gc_command.specs.Wrote.{KeepsFiles}
 use Rattle.gc_explain.specs.Explain.{Explains}
-use Rattle.gc_cli.specs.CarryOut.{Answers, HasFault, Writes}
+use Rattle.gc_cli.specs.CarryOut.{AnswersCommand, HasFault, Writes}
 use Rattle.gc_cli.specs.CommandLine.{IsOrder, AsksForText}
 use Rattle.gc_cli.specs.Output.{Printed}
 
@@ -18,7 +18,7 @@ use Rattle.gc_cli.specs.Output.{Printed}
 -- dishonest alone. `before` and `after` are of standard output.
 abbrev pub PrintsAnswer : FileBytes → FileBytes → OrderText → Bool → Printed → Printed → Type 0
 PrintsAnswer old new order honest before after =
-    ((out : List ℕ) × Answers old new order honest out
+    ((out : List ℕ) × AnswersCommand old new order honest out
     × Appends before.contents after.contents out)
     × (after.failures ≡ before.failures)
 
@@ -34,13 +34,13 @@ abbrev pub FailsToAnswer : FileBytes → FileBytes → (List ℕ → Type 0) →
 FailsToAnswer old new Failed order before after fault =
     (HasFault old Failed order fault × (after ≡ before)
     × KeepsFiles old new)
-    ⊎ (((honest : Bool) × ((out : List ℕ) × Answers old new order honest out))
+    ⊎ (((honest : Bool) × ((out : List ℕ) × AnswersCommand old new order honest out))
     × FailsToPrint before after fault)
 
--- A run that is done has printed what its order returns, or a text that its arguments ask for, and no call to print
+-- A successful run has printed what its order returns, or a text that its arguments ask for, and no call to print
 -- failed. Where the order is an audit, it has found the files honest.
-abbrev pub IsDone : FileBytes → FileBytes → List (List ℕ) → Printed → Printed → Type 0
-IsDone old new words before after =
+abbrev pub IsSuccessful : FileBytes → FileBytes → List (List ℕ) → Printed → Printed → Type 0
+IsSuccessful old new words before after =
     ((order : OrderText) × IsOrder words order × PrintsAnswer old new order true before after)
     ⊎ (AsksForText words × (after.failures ≡ before.failures))
 
@@ -62,8 +62,8 @@ abbrev pub AskToWrite : List (List ℕ) → List ℕ → Type 0
 AskToWrite words name = (order : OrderText) × IsOrder words order × Writes order name
 
 -- the line of a fault on standard error
-abbrev pub fault_line : Fault → List ℕ
-fault_line fault = codes "halfgates: " ++ text_of fault ++ 10 ∷ []
+abbrev pub error_line : Fault → List ℕ
+error_line fault = codes "halfgates: " ++ fault_text fault ++ 10 ∷ []
 
 -- why the arguments can't be read, by the kind of the error that asking for them gave
 abbrev pub reason_of : ErrorKind → List ℕ
@@ -82,7 +82,7 @@ PrintsLine before after line =
 
 -- It has the line of the fault.
 abbrev pub PrintsFault : Printed → Printed → Fault → Type 0
-PrintsFault before after fault = PrintsLine before after (fault_line fault)
+PrintsFault before after fault = PrintsLine before after (error_line fault)
 
 -- Standard error, as it was before and after, has nothing more; or, where the fault of an order is to be explained, it
 -- has the line that explains it, unless a call to print that failed. `bytes` are those of the files.

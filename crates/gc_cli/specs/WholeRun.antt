@@ -6,13 +6,14 @@ use Rattle.gc_command.specs.declared.fault.Fault.TheVariants as fault
 use Rattle.gc_command.specs.Wrote.{KeepsFiles}
 use Rattle.gc_cli.specs.declared.arguments.Refusal.{Refusal}
 use Rattle.gc_cli.specs.declared.arguments.Refusal.TheVariants.{NoFile, CannotRead, Memory}
-use Rattle.gc_cli.specs.Arguments.{IsRefusedLine, StandFor}
+use Rattle.gc_cli.specs.Arguments.{IsRefusedLine, LineStandsFor}
 use Rattle.gc_cli.specs.Output.{Printed}
 use Rattle.gc_cli.specs.Serve.{PrintsFault, PrintsLine}
 
 -- The words stand for arguments of which this is true.
 abbrev pub IsOf : FileBytes → List (List ℕ) → (List (List ℕ) → Type 0) → Type 0
-IsOf files words P = (arguments : List (List ℕ)) × (StandFor files words arguments × P arguments)
+IsOf files words P = (arguments : List (List ℕ))
+    × (LineStandsFor files words arguments × P arguments)
 
 -- The option comes last, without a file. No file has to fail for that.
 abbrev pub LackFile : FileBytes → List (List ℕ) → Type 0

@@ -14,20 +14,20 @@ use std::marker::Model;
 
 /// What an order returns.
 #[derive(Drop)]
-pub struct Answer<A: Allocator> {
+pub struct OrderResult<A: Allocator> {
     /// The lines for standard output.
     pub lines: Lines<A>,
     /// Whether an audit finds the files honest; true of any other order.
     pub is_honest: bool,
 }
 
-impl<A: Allocator> Answer<A> {
+impl<A: Allocator> OrderResult<A> {
     /// The result of an order that is neither `labels` nor an audit: lines that are made.
-    pub(crate) fn made(bytes: Vec<u8, A>) -> Answer<A>
+    pub(crate) fn made(bytes: Vec<u8, A>) -> OrderResult<A>
         ensures lines { result.lines ≡ bytes.items }
         ensures honest { result.is_honest ≡ true }
     {
-        Answer {
+        OrderResult {
             lines: Lines {
                 left: Left::Made(bytes),
             },
@@ -36,11 +36,11 @@ impl<A: Allocator> Answer<A> {
     }
 
     /// The result of `labels`.
-    pub(crate) fn of_labels(lines: LabelLines<A>) -> Answer<A>
+    pub(crate) fn of_labels(lines: LabelLines<A>) -> OrderResult<A>
         ensures lines { result.lines ≡ lines }
         ensures honest { result.is_honest ≡ true }
     {
-        Answer {
+        OrderResult {
             lines: Lines {
                 left: Left::Labels(lines),
             },
@@ -49,11 +49,11 @@ impl<A: Allocator> Answer<A> {
     }
 
     /// The result of an audit.
-    pub(crate) fn of_audit(found: Audited<A>) -> Answer<A>
+    pub(crate) fn of_audit(found: Audited<A>) -> OrderResult<A>
         ensures lines { result.lines ≡ found.lines.items }
         ensures honest { result.is_honest ≡ found.is_honest }
     {
-        Answer {
+        OrderResult {
             lines: Lines {
                 left: Left::Made(found.lines),
             },
@@ -79,11 +79,11 @@ enum Left<A: Allocator> {
 
 impl<A: Allocator> Model for Lines<A> {
     ghost use Rattle.std.specs.Prelude.{ℕ, List};
-    ghost use Rattle.gc_cli.specs.Lines.{bytes_of};
+    ghost use Rattle.gc_cli.specs.Lines.{left_bytes};
 
     ghost Value = { List ℕ };
 
-    ghost view = { λ l. bytes_of l.left };
+    ghost view = { λ l. left_bytes l.left };
 }
 
 impl<A: Allocator> Lines<A> {

@@ -3,7 +3,7 @@
 ghost use Rattle.std.specs.Prelude.{◌≡◌, ◌++◌, ◌≢◌, ◌∷◌, ℕ, List, map, string_bytes, IfErr, IfOk, IfNone, IfSome, OnOk, true, false, codes, length, ◌<◌, []};
 ghost use Rattle.gc_disk.specs.Files.{GivesFile, HasFailed};
 ghost use Rattle.gc_cli.specs.Arguments.{AreLines, ArePlain, AreRefused, AskForHelp, FirstStandsFor, HasLines, IsEnd, IsRefusedFile, IsRefusedLine};
-ghost use Rattle.gc_cli.specs.Arguments.{IsOption, IsRefusedNext, StandFor, StandForThemselves, WordsStandFor, help_last};
+ghost use Rattle.gc_cli.specs.Arguments.{IsOption, IsRefusedNext, LineStandsFor, StandForThemselves, WordsStandFor, help_last};
 
 use gc_disk::{FileError, Files};
 use std::alloc::{AllocError, Allocator};
@@ -82,7 +82,7 @@ pub fn arguments_of<A: Allocator + Copy, F: Files>(
     words: &[String],
     files: &mut F,
 ) -> Result<Vec<String<A>, A>, Refusal>
-    ensures given { IfOk result (λ arguments. StandFor (F.bytes files.old)
+    ensures given { IfOk result (λ arguments. LineStandsFor (F.bytes files.old)
         (map string_bytes words.now) (map string_bytes arguments.items)) }
     ensures refusal { IfErr result (IsRefusedLine (F.bytes files.old)
         (HasFailed (F.failures files.old) (F.failures files.new)) (map string_bytes words.now)) }

@@ -10,7 +10,7 @@ mod program;
 mod progress_line;
 mod whole_run;
 
-pub use answer::{Answer, Lines};
+pub use answer::{Lines, OrderResult};
 pub use arguments::{Refusal, arguments_of};
 pub use command_line::Heap;
 pub use gc_command::Fault;

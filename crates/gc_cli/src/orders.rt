@@ -1,12 +1,12 @@
 //! Carrying out orders.
 
 ghost use Rattle.std.specs.Prelude.{◌≡◌, ℕ, List, IfOk, IfErr, OnErr};
-ghost use Rattle.gc_order.specs.Order.{text_of};
+ghost use Rattle.gc_order.specs.Order.{order_text};
 ghost use Rattle.gc_disk.specs.Files.{HasFailed};
 ghost use Rattle.gc_command.specs.Wrote.{KeepsFiles};
-ghost use Rattle.gc_cli.specs.CarryOut.{Answers, HasFault, Writes};
+ghost use Rattle.gc_cli.specs.CarryOut.{AnswersCommand, HasFault, Writes};
 
-use crate::answer::Answer;
+use crate::answer::OrderResult;
 use gc_command::audit::audit;
 use gc_command::check::check;
 use gc_command::deal::deal;
@@ -32,30 +32,30 @@ pub fn carry_out<
     A: Allocator + Copy + Send + Sync,
     F: Files,
     P: Progress,
->(context: &Context<'_, R, A, P>, order: &Order, files: &mut F) -> Result<Answer<A>, Fault>
-    ensures answers { IfOk result (λ answer. Answers (F.bytes files.old) (F.bytes files.new)
-        (text_of order.now) answer.is_honest answer.lines) }
+>(context: &Context<'_, R, A, P>, order: &Order, files: &mut F) -> Result<OrderResult<A>, Fault>
+    ensures answers { IfOk result (λ answer. AnswersCommand (F.bytes files.old) (F.bytes files.new)
+        (order_text order.now) answer.is_honest answer.lines) }
     ensures fault { IfErr result (HasFault (F.bytes files.old)
-        (HasFailed (F.failures files.old) (F.failures files.new)) (text_of order.now)) }
+        (HasFailed (F.failures files.old) (F.failures files.new)) (order_text order.now)) }
 
     // A file changes only where the order writes it, and is as it was after any fault.
-    ensures others { (name : List ℕ) → ¬ Writes (text_of order.now) name
+    ensures others { (name : List ℕ) → ¬ Writes (order_text order.now) name
         → F.bytes files.new name ≡ F.bytes files.old name }
     ensures unwritten { OnErr result (KeepsFiles (F.bytes files.old) (F.bytes files.new)) }
 {
     let alloc = context.alloc;
     match order {
-        Order::Run(order) => Ok(Answer::made(run(context, order, files)?)),
-        Order::Plain(order) => Ok(Answer::made(plain(alloc, order, files)?)),
-        Order::Check { circuit } => Ok(Answer::made(check(context, circuit.as_str(), files)?)),
-        Order::Locate { circuit } => Ok(Answer::made(locate(alloc, circuit.as_str(), files)?)),
-        Order::Stats { circuit } => Ok(Answer::made(stats(alloc, circuit.as_str(), files)?)),
-        Order::ByDepth(order) => Ok(Answer::made(by_depth(context, order, files)?)),
-        Order::Garble(order) => Ok(Answer::made(garble(context, order, files)?)),
-        Order::Deal(order) => Ok(Answer::made(deal(alloc, order, files)?)),
-        Order::Eval(order) => Ok(Answer::made(eval(context, order, files)?)),
-        Order::Jobs(order) => Ok(Answer::made(jobs(context, order, files)?)),
-        Order::Labels(order) => Ok(Answer::of_labels(labels(alloc, order, files)?)),
-        Order::Audit(order) => Ok(Answer::of_audit(audit(context, order, files)?)),
+        Order::Run(order) => Ok(OrderResult::made(run(context, order, files)?)),
+        Order::Plain(order) => Ok(OrderResult::made(plain(alloc, order, files)?)),
+        Order::Check { circuit } => Ok(OrderResult::made(check(context, circuit.as_str(), files)?)),
+        Order::Locate { circuit } => Ok(OrderResult::made(locate(alloc, circuit.as_str(), files)?)),
+        Order::Stats { circuit } => Ok(OrderResult::made(stats(alloc, circuit.as_str(), files)?)),
+        Order::ByDepth(order) => Ok(OrderResult::made(by_depth(context, order, files)?)),
+        Order::Garble(order) => Ok(OrderResult::made(garble(context, order, files)?)),
+        Order::Deal(order) => Ok(OrderResult::made(deal(alloc, order, files)?)),
+        Order::Eval(order) => Ok(OrderResult::made(eval(context, order, files)?)),
+        Order::Jobs(order) => Ok(OrderResult::made(jobs(context, order, files)?)),
+        Order::Labels(order) => Ok(OrderResult::of_labels(labels(alloc, order, files)?)),
+        Order::Audit(order) => Ok(OrderResult::of_audit(audit(context, order, files)?)),
     }
 }

@@ -4,16 +4,16 @@ ghost use Rattle.std.specs.Prelude.{◌≡◌, ◌+◌, ◌<◌, ◌≤◌, ◌�
 ghost use Rattle.std.specs.Io.KnownBytes.{Appends};
 ghost use Rattle.std.specs.IoError.{error_kind};
 ghost use Rattle.gc_file.specs.Counted.{CountsFailure};
-ghost use Rattle.gc_order.specs.Order.{explains_in, text_of};
+ghost use Rattle.gc_order.specs.Order.{explains_in, order_text};
 ghost use Rattle.gc_disk.specs.Files.{HasFailed};
 ghost use Rattle.gc_cli.specs.CarryOut.{Writes};
 ghost use Rattle.gc_cli.specs.CommandLine.{IsAsked, IsMistaken};
 ghost use Rattle.gc_cli.specs.Output.{Printed};
-ghost use Rattle.gc_cli.specs.Serve.{AskToWrite, EndsByFault, FailsToAnswer, FindsDishonest, IsDone};
+ghost use Rattle.gc_cli.specs.Serve.{AskToWrite, EndsByFault, FailsToAnswer, FindsDishonest, IsSuccessful};
 ghost use Rattle.gc_cli.specs.Serve.{AddsExplanation, PrintsAnswer, PrintsFault, PrintsLine};
-ghost use Rattle.gc_cli.specs.Serve.{PrintsRefusal, fault_line, reason_of, refusal_line};
+ghost use Rattle.gc_cli.specs.Serve.{PrintsRefusal, error_line, reason_of, refusal_line};
 
-use crate::answer::Answer;
+use crate::answer::OrderResult;
 use crate::orders::carry_out;
 use crate::output::{Console, Output};
 use clap::Error;
@@ -48,7 +48,7 @@ pub(crate) fn serve_asked<R: Threads + Wait + Sync, F: Reread, O: Write, E: Writ
     ensures status { result ≤ DISHONEST }
 
     ensures done { result ≡ DONE → (words : List (List ℕ)) (old new : ℕ)
-        → IsAsked words old new asked → IsDone (F.bytes files.old) (F.bytes files.new) words
+        → IsAsked words old new asked → IsSuccessful (F.bytes files.old) (F.bytes files.new) words
         console.old.out console.new.out }
     ensures no_errors { result ≡ DONE → console.new.err ≡ console.old.err }
     ensures dishonest { result ≡ DISHONEST → (words : List (List ℕ)) (old new : ℕ)
@@ -112,16 +112,16 @@ fn print_answer<R: Threads + Wait + Sync, F: Files, O: Write, P: Progress>(
     out: &mut Output<O>,
 ) -> Result<bool, Fault>
     ensures done { IfOk result (λ honest. PrintsAnswer (F.bytes files.old) (F.bytes files.new)
-        (text_of order.now) honest out.old out.new) }
+        (order_text order.now) honest out.old out.new) }
     ensures fault { IfErr result (λ fault. FailsToAnswer (F.bytes files.old) (F.bytes files.new)
         (HasFailed (F.failures files.old) (F.failures files.new))
-        (text_of order.now) out.old out.new fault) }
-    ensures others { (name : List ℕ) → ¬ Writes (text_of order.now) name
+        (order_text order.now) out.old out.new fault) }
+    ensures others { (name : List ℕ) → ¬ Writes (order_text order.now) name
         → F.bytes files.new name ≡ F.bytes files.old name }
 {
     let answer = carry_out(context, order, files);
     context.progress.end();
-    let Answer { lines, is_honest } = answer?;
+    let OrderResult { lines, is_honest } = answer?;
     lines.print(out)?;
     Ok(is_honest)
 }
@@ -169,7 +169,7 @@ fn report_order<F: Reread, O: Write, E: Write>(
 ) -> u8
     ensures status { result ≡ FAULT }
     ensures printed { (reported : Printed) × PrintsFault console.old.err reported fault
-        × AddsExplanation (F.bytes ended.now.files.now) (text_of ended.now.order.now)
+        × AddsExplanation (F.bytes ended.now.files.now) (order_text ended.now.order.now)
         (console.old.explains || explains) fault reported console.new.err }
     ensures same { console.new.out ≡ console.old.out }
 {
@@ -186,7 +186,8 @@ fn tell<F: Reread, O: Write, E: Write>(
     explains: bool,
     console: &mut Console<O, E>,
 )
-    ensures explained { AddsExplanation (F.bytes ended.now.files.now) (text_of ended.now.order.now)
+    ensures explained { AddsExplanation (F.bytes ended.now.files.now)
+        (order_text ended.now.order.now)
         (console.old.explains || explains) fault console.old.err console.new.err }
     ensures same { console.new.out ≡ console.old.out }
 {
@@ -216,7 +217,7 @@ pub(crate) fn report<E: Write>(fault: Fault, err: &mut Output<E>) -> u8
 
 /// Writes the line of a fault.
 fn write_fault<E: Write>(fault: Fault, err: &mut Output<E>) -> io::Result<()>
-    ensures printed { OnOk result (Appends err.old.contents err.new.contents (fault_line fault)) }
+    ensures printed { OnOk result (Appends err.old.contents err.new.contents (error_line fault)) }
     ensures counted { CountsFailure result err.old.failures err.new.failures }
 {
     writeln!(err, "halfgates: {fault}")

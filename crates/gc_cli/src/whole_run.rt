@@ -6,7 +6,7 @@ ghost use Rattle.gc_file.specs.Counted.{CountsFailure};
 ghost use Rattle.gc_disk.specs.Files.{HasFailed};
 ghost use Rattle.gc_cli.specs.Arguments.{IsRefusedLine, StandForThemselves};
 ghost use Rattle.gc_cli.specs.CommandLine.{IsAsked, IsMistaken};
-ghost use Rattle.gc_cli.specs.Serve.{AskToWrite, EndsByFault, FindsDishonest, IsDone};
+ghost use Rattle.gc_cli.specs.Serve.{AskToWrite, EndsByFault, FindsDishonest, IsSuccessful};
 ghost use Rattle.gc_cli.specs.WholeRun.{EndsByRefusal, IsOf, LackFile, PrintsNoFile, no_file_text};
 
 use crate::arguments::{Refusal, arguments_of, stand_for_themselves};
@@ -49,7 +49,7 @@ pub fn serve<R: Threads + Wait + Sync, F: Reread, O: Write, E: Write, P: Progres
     ensures status { result ≤ DISHONEST }
 
     ensures done { result ≡ DONE → IsOf (F.bytes files.old) (map string_bytes words.now)
-        (λ arguments. IsDone (F.bytes files.old) (F.bytes files.new) arguments
+        (λ arguments. IsSuccessful (F.bytes files.old) (F.bytes files.new) arguments
         console.old.out console.new.out) }
     ensures no_errors { result ≡ DONE → console.new.err ≡ console.old.err }
     ensures dishonest { result ≡ DISHONEST → IsOf (F.bytes files.old) (map string_bytes words.now)

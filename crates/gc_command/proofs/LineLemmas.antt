@@ -5,7 +5,7 @@ use Rattle.std.proofs.lemmas.List as lists
 use Rattle.gc_netlist.specs.Circuit.{Netlist}
 use Rattle.gc_file.specs.GarbledFile.{GarbledParts, IsGarbledFile}
 use Rattle.gc_file.specs.LabelFile.{LabelFileParts}
-use Rattle.gc_file.specs.FileFault.{FirstFault}
+use Rattle.gc_file.specs.FileFault.{FirstGarbledFault}
 use Rattle.gc_command.specs.declared.fault.Fault.TheVariants as faults
 use Rattle.gc_command.specs.declared.line_files.LineFiles.{LineFiles}
 use Rattle.gc_command.specs.declared.line_files.LineFiles.TheVariants.{Unread, Unlabelled, Whole}
@@ -91,7 +91,8 @@ module _ (bytes : FileBytes) (Failed : List ℕ → Type 0) (c : Netlist) where
       → GivesFile (bytes garbled) held → HasBytesFault held fault
       → HasNamedFault bytes Failed c (garbled ∷ labels) fault
   bytes_fault garbled labels held (faults.File fault) given has =
-      inl (λ other. found_where_known (λ held. FirstFault held fault) (bytes garbled) held given
+      inl (λ other. found_where_known (λ held. FirstGarbledFault held fault) (bytes garbled) held
+      given
       (has other))
   bytes_fault garbled labels held fault given has = absurd has
 

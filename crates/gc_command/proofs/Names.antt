@@ -11,7 +11,7 @@ pub use Rattle.gc_command.specs.CircuitFile.{IsCircuit, HasReadingFault}
 pub use Rattle.gc_command.specs.Eval.{AreLabelFiles, HasGarbledFault, HasLabelFault, HasLabelFilesFault, HasFilesFault, AreEvalFiles, HasEvalFault}
 pub use Rattle.gc_command.specs.Job.{DecodeTo, HasJobFault}
 pub use Rattle.gc_command.specs.Lines.{output_lines}
-pub use Rattle.gc_command.specs.OwnFiles.{AreGarbledBytes, AreLabelsOf}
+pub use Rattle.gc_command.specs.OwnFiles.{AreGarbledBytes, AreLabelFilesOf}
 pub use Rattle.gc_command.specs.Values.{SpellValues, IsInputValue, FirstBadValue}
 pub use Rattle.gc_command.specs.declared.fault.Fault.{Fault}
 pub use Rattle.gc_file.proofs.OneFile.{one_file, file_not_fault}
@@ -24,6 +24,6 @@ pub use Rattle.gc_job.specs.Binding.{FirstBindFault, other_circuit}
 pub use Rattle.gc_job.specs.Honest.{IsHonestGarbled, AreHonestFiles, HonestFilesLaw}
 pub use Rattle.gc_netlist.specs.Canon.{line, canonical_text}
 pub use Rattle.gc_netlist.specs.Circuit.{Netlist, IsLawful, output_wires}
-pub use Rattle.gc_file.specs.FileFault.{FirstFault, FirstLabelFault}
+pub use Rattle.gc_file.specs.FileFault.{FirstGarbledFault, FirstLabelFault}
 pub use Rattle.gc_circuit.proofs.ValueLemmas.{value_text_law}
 pub use mathlib.Core.Path.{fun_ext}

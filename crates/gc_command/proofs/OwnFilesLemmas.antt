@@ -1,5 +1,5 @@
 -- The files that a run makes for itself are honest.
-use Rattle.gc_command.proofs.Names.{◌≡◌, ℕ, ◌+◌, ◌<◌, ◌^◌, ◌++◌, ◌∙◌, Bool, List, [], ◌∷◌, length, map, take, get_or, slice_get, Some, inl, inr, length-append, refl, arith, common_steps, length-take-le, slice_get-map, slice_get_within, slice_get-get_or, slice_get_read, gets, Netlist, IsLawful, Fits, GarbledParts, IsGarbledFile, LabelFileParts, IsLabelFile, label_file, label_parts_of, honest_parts, one_file, IsHonestGarbled, AreHonestFiles, AreGarbledBytes, AreLabelsOf}
+use Rattle.gc_command.proofs.Names.{◌≡◌, ℕ, ◌+◌, ◌<◌, ◌^◌, ◌++◌, ◌∙◌, Bool, List, [], ◌∷◌, length, map, take, get_or, slice_get, Some, inl, inr, length-append, refl, arith, common_steps, length-take-le, slice_get-map, slice_get_within, slice_get-get_or, slice_get_read, gets, Netlist, IsLawful, Fits, GarbledParts, IsGarbledFile, LabelFileParts, IsLabelFile, label_file, label_parts_of, honest_parts, one_file, IsHonestGarbled, AreHonestFiles, AreGarbledBytes, AreLabelFilesOf}
 use Rattle.std.proofs.lemmas.Bool.{cases_eq}
 use Rattle.gc_half.proofs.CanonicalLemmas.{IsGarbled-same}
 use Rattle.gc_file.specs.declared.parts.Version.TheVariants.{Two}
@@ -48,9 +48,9 @@ own-width c values fits i bits at = rw (← fits, slice_get-map length values i,
 -- One more label file.
 pub labels-more : {c : Netlist} {seed : List ℕ} (values : List (List Bool)) (i : ℕ)
     {files : List LabelFileParts} {bits : List Bool} {file : LabelFileParts}
-    → AreLabelsOf c seed (take i values) files → slice_get values i ≡ Some bits
+    → AreLabelFilesOf c seed (take i values) files → slice_get values i ≡ Some bits
     → file ≡ label_parts_of c seed i bits
-    → AreLabelsOf c seed (take (i + 1) values) (files ++ file ∷ [])
+    → AreLabelFilesOf c seed (take (i + 1) values) (files ++ file ∷ [])
 labels-more {c} {seed} values i {files} {bits} {file} are at is =
     let inside = slice_get_within values i bits at in
     let front = length-take-le i values (omega arith) in
@@ -75,7 +75,7 @@ labels-more {c} {seed} values i {files} {bits} {file} are at is =
 -- The files are honest.
 pub own-honest : {c : Netlist} {seed : List ℕ} {values : List (List Bool)} {g : GarbledParts}
     {files : List LabelFileParts} → Fits c values → IsHonestGarbled c seed g
-    → AreLabelsOf c seed values files → AreHonestFiles c seed values g files
+    → AreLabelFilesOf c seed values files → AreHonestFiles c seed values g files
 own-honest {c} {seed} {values} {g} {files} fits garbled are = record {
   garbled = garbled;
   fits = fits;

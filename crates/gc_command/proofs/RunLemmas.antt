@@ -4,7 +4,7 @@ use Rattle.gc_job.specs.declared.fault.EvalFault.TheVariants as eval
 use Rattle.gc_job.proofs.HonestFiles.{honest-files}
 use Rattle.gc_command.specs.declared.fault.Fault.TheVariants as faults
 use Rattle.gc_command.specs.Input.{IsInput}
-use Rattle.gc_command.specs.Run.{IsWantOfMemory, IsRunFault}
+use Rattle.gc_command.specs.Run.{IsFilesMemoryFault, IsRunFault}
 use Rattle.gc_command.proofs.FaultLemmas.{bind-memory}
 
 module _ {c : Netlist} (lawful : IsLawful c) {seed : List ℕ} {values : List (List Bool)}
@@ -19,7 +19,7 @@ module _ {c : Netlist} (lawful : IsLawful c) {seed : List ℕ} {values : List (L
   honest-decode outputs is = law.outputs is.job is.bound (Ok outputs) is.evaluated
 
   -- and only memory may be missing.
-  pub honest-fault : (fault : Fault) → HasJobFault c g files 1 fault → IsWantOfMemory fault
+  pub honest-fault : (fault : Fault) → HasJobFault c g files 1 fault → IsFilesMemoryFault fault
   honest-fault (faults.Binding fault) has =
       bind-memory (FirstBindFault c g files) law.no_fault fault has
   honest-fault (faults.Evaluation eval.BadWorkers) has = absurd (grind (arith, has.2))
@@ -31,7 +31,7 @@ module _ {c : Netlist} (lawful : IsLawful c) {seed : List ℕ} {values : List (L
 -- Where memory is missing, a run has that fault.
 pub want-of-memory : {bytes seed : List ℕ} {workers : ℕ} {texts : List (List ℕ)} {c : Netlist}
     {values : List (List Bool)} → IsInput bytes seed texts c values → AreFew workers
-    → (fault : Fault) → IsWantOfMemory fault → IsRunFault bytes seed workers texts fault
+    → (fault : Fault) → IsFilesMemoryFault fault → IsRunFault bytes seed workers texts fault
 want-of-memory input few (faults.Garbling fault) want =
     record { first = ((_, (_, input)), rw want few); cause = tt }
 want-of-memory input few (faults.File fault) want =

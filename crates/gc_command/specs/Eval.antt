@@ -5,7 +5,7 @@ use Rattle.gc_netlist.specs.Circuit.{Netlist}
 use Rattle.gc_file.specs.declared.fault.FileFault.TheVariants as file
 use Rattle.gc_file.specs.GarbledFile.{GarbledParts, IsGarbledFile}
 use Rattle.gc_file.specs.LabelFile.{LabelFileParts, IsLabelFile}
-use Rattle.gc_file.specs.FileFault.{FirstFault, FirstLabelFault}
+use Rattle.gc_file.specs.FileFault.{FirstGarbledFault, FirstLabelFault}
 use Rattle.gc_workers.specs.Workers.{AreFew}
 use Rattle.gc_disk.specs.Files.{FileBytes}
 use Rattle.gc_command.specs.declared.fault.Fault.{Fault}
@@ -25,7 +25,7 @@ AreLabelFiles bytes _ _ = ⊥
 -- The faults of reading the garbled file of this name, memory aside. `Failed` says of a name that its file has failed.
 abbrev pub HasGarbledFault : FileBytes → (List ℕ → Type 0) → List ℕ → Fault → Type 0
 HasGarbledFault bytes Failed name (File fault) =
-    fault ≢ file.Memory → IfSome (bytes name) (λ held. FirstFault held fault)
+    fault ≢ file.Memory → IfSome (bytes name) (λ held. FirstGarbledFault held fault)
 HasGarbledFault bytes Failed name CannotRead = Failed name
 HasGarbledFault bytes Failed name Memory = Unit {0}
 HasGarbledFault bytes Failed name _ = ⊥

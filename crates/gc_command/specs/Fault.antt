@@ -31,8 +31,8 @@ code_of CannotWrite = 51
 code_of Memory = 52
 
 -- `fault`, the number in decimal digits, and the name
-abbrev pub text_of : Fault → List ℕ
-text_of fault = codes "fault " ++ decimal (code_of fault) ++ 32 ∷ fault_name (code_of fault)
+abbrev pub fault_text : Fault → List ℕ
+fault_text fault = codes "fault " ++ decimal (code_of fault) ++ 32 ∷ fault_name (code_of fault)
 
 -- the fault of a command where taking a garbled file has this one
 abbrev pub IsFaultOfTaking : TakeFault → Fault → Type 0

@@ -65,11 +65,11 @@ pub record AnswersLabels (bytes seed_text : List ℕ) (from count : ℕ) (texts 
   pub printed : AreLabelLines circuit seed values from count lines
 
 -- The faults of a command that lacks memory while it garbles, evaluates or makes its lines.
-abbrev pub IsWantOfMemory : Fault → Type 0
-IsWantOfMemory (Circuit fault) = fault ≡ read.Memory
-IsWantOfMemory (Garbling fault) = fault ≡ work.Memory
-IsWantOfMemory Memory = Unit {0}
-IsWantOfMemory _ = ⊥
+abbrev pub IsLinesMemoryFault : Fault → Type 0
+IsLinesMemoryFault (Circuit fault) = fault ≡ read.Memory
+IsLinesMemoryFault (Garbling fault) = fault ≡ work.Memory
+IsLinesMemoryFault Memory = Unit {0}
+IsLinesMemoryFault _ = ⊥
 
 -- When `labels` has which fault: those of its input in turn, and then that memory runs out. Where it runs out in the
 -- evaluation, that is a fault of the circuit, and in the garbling a fault of garbling.

@@ -4,7 +4,7 @@ use Rattle.std.specs.Prelude.{◌≡◌, ◌≢◌, ℕ, ◌⊎◌, Bool, true, 
 use Rattle.sha2.specs.Sha256.{sha256}
 use Rattle.gc_netlist.specs.Circuit.{Netlist}
 use Rattle.gc_file.specs.declared.fault.FileFault.TheVariants as file
-use Rattle.gc_file.specs.FileFault.{FirstFault}
+use Rattle.gc_file.specs.FileFault.{FirstGarbledFault}
 use Rattle.gc_file.specs.GarbledFile.{GarbledParts, IsGarbledFile}
 use Rattle.gc_file.specs.LabelFile.{LabelFileParts}
 use Rattle.gc_file.specs.Reading.{before_trailer}
@@ -63,7 +63,7 @@ MakeJob c _ job = ⊥
 
 -- The fault of bytes that are no garbled file, memory aside.
 abbrev pub HasBytesFault : List ℕ → Fault → Type 0
-HasBytesFault held (File fault) = fault ≢ file.Memory → FirstFault held fault
+HasBytesFault held (File fault) = fault ≢ file.Memory → FirstGarbledFault held fault
 HasBytesFault held _ = ⊥
 
 -- That of a garbled file and label files that are no job for the circuit.

@@ -14,7 +14,7 @@ pub record AreGarbledBytes (c : Netlist) (seed bytes : List ℕ) : Type 0 where
   pub spelled : bytes ≡ garbled_file (honest_parts Two c garbling seed)
 
 -- The files are the label files of these input values under the seed, in order.
-pub record AreLabelsOf (c : Netlist) (seed : List ℕ) (values : List (List Bool))
+pub record AreLabelFilesOf (c : Netlist) (seed : List ℕ) (values : List (List Bool))
     (files : List LabelFileParts) : Type 0 where
   pub count : length files ≡ length values
   pub each : (k : ℕ) (bits : List Bool) → slice_get values k ≡ Some bits

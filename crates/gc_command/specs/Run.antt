@@ -17,13 +17,13 @@ use Rattle.gc_command.specs.Input.{IsInput, HasInput, HasInputFault}
 use Rattle.gc_command.specs.Lines.{output_lines}
 
 -- The faults of the files that a run makes for itself: that there is no memory.
-abbrev pub IsWantOfMemory : Fault → Type 0
-IsWantOfMemory (Garbling fault) = fault ≡ work.Memory
-IsWantOfMemory (File fault) = fault ≡ file.Memory
-IsWantOfMemory (Binding fault) = fault ≡ bind.Memory
-IsWantOfMemory (Evaluation fault) = fault ≡ eval.Memory
-IsWantOfMemory Memory = Unit {0}
-IsWantOfMemory _ = ⊥
+abbrev pub IsFilesMemoryFault : Fault → Type 0
+IsFilesMemoryFault (Garbling fault) = fault ≡ work.Memory
+IsFilesMemoryFault (File fault) = fault ≡ file.Memory
+IsFilesMemoryFault (Binding fault) = fault ≡ bind.Memory
+IsFilesMemoryFault (Evaluation fault) = fault ≡ eval.Memory
+IsFilesMemoryFault Memory = Unit {0}
+IsFilesMemoryFault _ = ⊥
 
 -- What `run` returns: the lines of the circuit's outputs on the values, whatever the number of workers.
 pub record AnswersRun (bytes seed : List ℕ) (workers : ℕ) (form : ValueForm)
@@ -41,11 +41,11 @@ abbrev pub HasRunFault : List ℕ → List ℕ → ℕ → List (List ℕ) → F
 HasRunFault bytes seed workers texts (Garbling fault) =
     HasInput bytes seed texts × HasWorkFault workers fault
 HasRunFault bytes seed workers texts (File fault) =
-    IsWantOfMemory (File fault) × HasInput bytes seed texts
+    IsFilesMemoryFault (File fault) × HasInput bytes seed texts
 HasRunFault bytes seed workers texts (Binding fault) =
-    IsWantOfMemory (Binding fault) × HasInput bytes seed texts
+    IsFilesMemoryFault (Binding fault) × HasInput bytes seed texts
 HasRunFault bytes seed workers texts (Evaluation fault) =
-    IsWantOfMemory (Evaluation fault) × HasInput bytes seed texts
+    IsFilesMemoryFault (Evaluation fault) × HasInput bytes seed texts
 HasRunFault bytes seed workers texts fault = HasInputFault bytes seed texts fault
 
 -- The fault is one that `run` has, and no file is its cause.

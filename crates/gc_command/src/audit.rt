@@ -15,7 +15,7 @@ use crate::context::Context;
 use crate::digest::with_digest;
 use crate::evaluated_files::read_named;
 use crate::fault::Fault;
-use crate::job::Given;
+use crate::job::GivenFiles;
 use crate::progress::{Progress, Stage};
 use gc_audit::{
     ComparedFile, GarbledAudit, PartsAudit, SeedReference, are_counts_right, audit_compared,
@@ -88,7 +88,7 @@ fn garbled_audit(named: [u8; 32], digest: [u8; 32], parts: Option<PartsAudit>) -
 }
 
 /// A seed, and the files that are compared.
-type Input<A> = (Seed, Given<A>);
+type Input<A> = (Seed, GivenFiles<A>);
 
 /// Reads the circuit of a text, the seed, the garbled file and the label files, in turn. The caller ensures that the
 /// text is that of the circuit's file.

@@ -19,7 +19,7 @@ use crate::context::Context;
 use crate::digest::with_digest;
 use crate::evaluated_files::{are_regular, read_named};
 use crate::fault::Fault;
-use crate::job::Given;
+use crate::job::GivenFiles;
 use crate::lines::output_lines;
 use crate::progress::{Progress, Stage};
 use crate::value_form::ValueForm;
@@ -56,7 +56,7 @@ pub fn eval<R: Threads + Wait + Sync, A: Allocator + Copy + Send + Sync, F: File
     let (circuit, (named, outputs), digest) = with_digest(
         rt,
         text,
-        &mut || -> Result<(Circuit<A>, Given<A>), Fault>
+        &mut || -> Result<(Circuit<A>, GivenFiles<A>), Fault>
             requires { GivesFile (F.bytes files.now (string_bytes order.now.circuit)) text.now }
             ensures read { IfOk result (λ made. AreEvalFiles (F.bytes files.entry.now)
                 (string_bytes order.entry.now.circuit) (string_bytes order.entry.now.garbled)
@@ -85,7 +85,7 @@ fn read_files<R: Threads + Sync, A: Allocator + Copy + Send + Sync, F: Files, P:
     order: &EvalOrder,
     text: &[u8],
     files: &mut F,
-) -> Result<(Circuit<A>, Given<A>), Fault>
+) -> Result<(Circuit<A>, GivenFiles<A>), Fault>
     requires { GivesFile (F.bytes files.old (string_bytes order.now.circuit)) text.now }
     ensures read { IfOk result (λ made. AreEvalFiles (F.bytes files.old)
         (string_bytes order.now.circuit) (string_bytes order.now.garbled)
@@ -115,7 +115,7 @@ fn read_side_by_side<R: Threads + Sync, A: Allocator + Copy + Send + Sync, F: Fi
     order: &EvalOrder,
     text: &[u8],
     files: &mut F,
-) -> (Result<Circuit<A>, ReadFault>, Result<Given<A>, Fault>)
+) -> (Result<Circuit<A>, ReadFault>, Result<GivenFiles<A>, Fault>)
     ensures circuit { IfOk result.0 (λ c. IsCircuit text.now c) }
     ensures fault { IfErr result.0 (λ fault. fault ≢ ReadFault.Memory
         → circuit_of (tokens text.now) ≡ Err fault) }
@@ -145,7 +145,7 @@ fn read_given<R, A: Allocator + Copy, F: Files, P: Progress>(
     context: &Context<'_, R, A, P>,
     order: &EvalOrder,
     files: &mut F,
-) -> Result<Given<A>, Fault>
+) -> Result<GivenFiles<A>, Fault>
     ensures given { IfOk result (λ given. AreFilesGiven (F.bytes files.old)
         (string_bytes order.now.garbled) (map string_bytes order.now.labels.items)
         given.0 given.1.items) }
@@ -164,7 +164,7 @@ fn evaluate_given<R: Threads + Wait + Sync, A: Allocator + Copy + Send + Sync, P
     context: &Context<'_, R, A, P>,
     order: &EvalOrder,
     circuit: &Circuit<A>,
-    given: Given<A>,
+    given: GivenFiles<A>,
 ) -> ([u8; 32], Result<Vec<bool, A>, Fault>)
     ensures named { result.0 ≡ given.0.digest }
     ensures outcome { given.0.digest ≡ sha256 (canonical_text circuit.now)

@@ -7,7 +7,7 @@ ghost use Rattle.gc_disk.specs.Files.{HasFailed};
 ghost use Rattle.gc_command.specs.Eval.{AreFilesGiven, AreLabelFiles, HasFilesFault, HasGarbledFault, HasLabelFault, HasLabelFilesFault};
 
 use crate::fault::Fault;
-use crate::job::Given;
+use crate::job::GivenFiles;
 use gc_disk::Files;
 use gc_file::{Garbled, LabelFile, read_garbled_from, read_labels};
 use std::alloc::Allocator;
@@ -24,7 +24,7 @@ pub fn read_named<N: AsStr, A: Allocator + Copy, F: Files>(
     garbled: &str,
     labels: &[N],
     files: &mut F,
-) -> Result<Given<A>, Fault>
+) -> Result<GivenFiles<A>, Fault>
     ensures given { IfOk result (λ given. AreFilesGiven (F.bytes files.old) garbled.now
         (map N.text labels.now) given.0 given.1.items) }
     ensures fault { IfErr result (HasFilesFault (F.bytes files.old)

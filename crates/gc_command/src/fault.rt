@@ -2,7 +2,7 @@
 
 ghost use Rattle.std.specs.Prelude.{◌≡◌, Some};
 ghost use Rattle.gc_netlist.specs.Names.{fault_name};
-ghost use Rattle.gc_command.specs.Fault.{code_of, text_of};
+ghost use Rattle.gc_command.specs.Fault.{code_of, fault_text};
 
 use gc_circuit::{Memory, ReadFault, ValueFault};
 use gc_disk::FileError;
@@ -78,7 +78,7 @@ impl Fault {
 
 /// Writes `fault`, the number and the name.
 impl fmt::Display for Fault {
-    ghost output = { λ fault. Some (text_of fault) };
+    ghost output = { λ fault. Some (fault_text fault) };
 
     fn fmt<W: fmt::Write>(&self, f: &mut fmt::Formatter<W>) -> fmt::Result {
         let code = self.code();

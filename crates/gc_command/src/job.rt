@@ -17,7 +17,7 @@ use std::sync::Wait;
 use std::thread::Threads;
 
 /// A garbled file, and label files.
-pub type Given<A> = (Garbled<A>, Vec<LabelFile<A>, A>);
+pub type GivenFiles<A> = (Garbled<A>, Vec<LabelFile<A>, A>);
 
 impl<A: Allocator + Copy + Send + Sync> Binder<'_, A> {
     /// The output bits that a garbled file and label files decode to, with this many workers. Nothing is known of the
@@ -25,7 +25,7 @@ impl<A: Allocator + Copy + Send + Sync> Binder<'_, A> {
     pub fn evaluate_files<R: Threads + Wait + Sync>(
         &self,
         rt: &R,
-        given: Given<A>,
+        given: GivenFiles<A>,
         workers: u32,
     ) -> Result<Vec<bool, A>, Fault>
         ensures decoded { self.now.digest.now ≡ sha256 (canonical_text self.now.circuit.now)

@@ -3,7 +3,7 @@
 ghost use Rattle.std.specs.Prelude.{◌≡◌, ◌<◌, ◌++◌, ◌∷◌, ℕ, List, [], length, map, IfOk, IfErr, IfSome, MatchOption, string_bytes};
 ghost use Rattle.gc_circuit.specs.Meaning.{Fits};
 ghost use Rattle.gc_command.specs.Fault.{HasReadCause};
-ghost use Rattle.gc_command.specs.Labels.{AnswersLabels, AreLabelLines, HasLabelsFault, IsWantOfMemory};
+ghost use Rattle.gc_command.specs.Labels.{AnswersLabels, AreLabelLines, HasLabelsFault, IsLinesMemoryFault};
 ghost use Rattle.gc_command.specs.Labels.{label_digits, wire_line};
 
 use crate::circuit_file::read_circuit;
@@ -99,7 +99,7 @@ impl<A: Allocator + Copy> Garbler<'_, A> {
         requires { Fits self.now.circuit.now (map (λ v. v.items) values.now) }
         ensures lines { IfOk result (AreLabelLines self.now.circuit.now self.now.seed.now
             (map (λ v. v.items) values.now) from count) }
-        ensures fault { IfErr result IsWantOfMemory }
+        ensures fault { IfErr result IsLinesMemoryFault }
     {
         let (alloc, circuit) = (self.alloc, self.circuit);
         let Ok(garbling) = garble_one_thread(alloc, circuit, self.seed) else {

@@ -7,8 +7,8 @@ ghost use Rattle.gc_circuit.specs.Meaning.{Fits};
 ghost use Rattle.gc_half.specs.Garbling.{IsGarbled};
 ghost use Rattle.gc_file.specs.LabelFile.{label_parts_of};
 ghost use Rattle.gc_job.specs.Honest.{IsHonestGarbled};
-ghost use Rattle.gc_command.specs.OwnFiles.{AreGarbledBytes, AreLabelsOf};
-ghost use Rattle.gc_command.specs.Run.{IsWantOfMemory};
+ghost use Rattle.gc_command.specs.OwnFiles.{AreGarbledBytes, AreLabelFilesOf};
+ghost use Rattle.gc_command.specs.Run.{IsFilesMemoryFault};
 
 use crate::fault::Fault;
 use crate::garbler::Garbler;
@@ -27,7 +27,7 @@ impl<A: Allocator + Copy> Garbler<'_, A> {
         requires digest { digest.now ≡ sha256 (canonical_text self.now.circuit.now) }
         requires garbled { IsGarbled self.now.circuit.now self.now.seed.now garbling }
         ensures honest { IfOk result (IsHonestGarbled self.now.circuit.now self.now.seed.now) }
-        ensures fault { IfErr result IsWantOfMemory }
+        ensures fault { IfErr result IsFilesMemoryFault }
     {
         self.circuit.law_lawful();
         let bytes = self.garbled_bytes(digest, garbling)?;
@@ -40,7 +40,7 @@ impl<A: Allocator + Copy> Garbler<'_, A> {
         requires garbled { IsGarbled self.now.circuit.now self.now.seed.now garbling }
         ensures file { IfOk result
             (λ bytes. AreGarbledBytes self.now.circuit.now self.now.seed.now bytes.items) }
-        ensures fault { IfErr result IsWantOfMemory }
+        ensures fault { IfErr result IsFilesMemoryFault }
     {
         let mut sink = MemSink::new(self.alloc, None);
         let source = GarbledSource {
@@ -59,9 +59,9 @@ impl<A: Allocator + Copy> Garbler<'_, A> {
     /// circuit.
     pub fn own_labels(&self, values: &[Vec<bool, A>]) -> Result<Vec<LabelFile<A>, A>, Fault>
         requires { Fits self.now.circuit.now (map (λ value. value.items) values.now) }
-        ensures labels { IfOk result (λ labels. AreLabelsOf self.now.circuit.now
+        ensures labels { IfOk result (λ labels. AreLabelFilesOf self.now.circuit.now
             self.now.seed.now (map (λ value. value.items) values.now) labels.items) }
-        ensures fault { IfErr result IsWantOfMemory }
+        ensures fault { IfErr result IsFilesMemoryFault }
     {
         self.circuit.law_lawful();
         let mut labels = Vec::with_capacity(self.alloc, values.len())?;
@@ -77,7 +77,7 @@ impl<A: Allocator + Copy> Garbler<'_, A> {
         requires { slice_get self.now.circuit.now.input_widths index ≡ Some (length bits.now) }
         ensures parts { IfOk result (λ file.
             file ≡ label_parts_of self.now.circuit.now self.now.seed.now index bits.now) }
-        ensures fault { IfErr result IsWantOfMemory }
+        ensures fault { IfErr result IsFilesMemoryFault }
     {
         self.circuit.law_lawful();
         let mut sink = MemSink::new(self.alloc, None);

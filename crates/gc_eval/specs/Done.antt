@@ -15,8 +15,8 @@ abbrev pub job_in : {A B C : Type 0} → Active B A C → JobParts
 job_in active = active.job.now
 
 -- its words, as on a board
-abbrev pub words_of : {A B C : Type 0} → Active B A C → List ℕ
-words_of active = slots_items active.closed.words
+abbrev pub board_words : {A B C : Type 0} → Active B A C → List ℕ
+board_words active = slots_items active.closed.words
 
 -- the state word of gate g
 abbrev pub state_of : List ℕ → ℕ → ℕ
@@ -24,12 +24,12 @@ state_of words g = gates.state_of one_round words 0 g
 
 -- Gate g is done.
 abbrev pub IsDone : {A B C : Type 0} → Active B A C → ℕ → Type 0
-IsDone active g = state_of (words_of active) g ≡ DONE
+IsDone active g = state_of (board_words active) g ≡ DONE
 
 -- how many of the first n gates are done
 abbrev pub done_of : {A B C : Type 0} → Active B A C → ℕ → ℕ
 done_of active n =
-    total (λ g. only DONE (state_of (words_of active) g)) (range_with_len 0 n)
+    total (λ g. only DONE (state_of (board_words active) g)) (range_with_len 0 n)
 
 -- A wire has a label: it is an input wire, or a gate that is done sets it.
 abbrev pub HasLabel : {A B C : Type 0} → Active B A C → ℕ → Type 0

@@ -8,10 +8,10 @@ abbrev pub IsRight : JobParts → ℕ → ℕ → ℕ → ℕ → Type 0
 IsRight job r g k n = IsRightHalf job g k n
 
 -- the job of a round
-abbrev pub job_of : JobParts → ℕ → Option JobParts
-job_of job r = Some job
+abbrev pub round_job : JobParts → ℕ → Option JobParts
+round_job job r = Some job
 
-pub one_job_law : JobsLaw IsRight job_of
+pub one_job_law : JobsLaw IsRight round_job
 one_job_law = record {
   gives = λ w r job is g k n it. let same : w ≡ job = cc in rw same at it;
   takes = λ w r job is g k n it. let same : w ≡ job = cc in rw same it;

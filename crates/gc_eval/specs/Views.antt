@@ -11,8 +11,8 @@ abbrev pub Seen : Type 0
 Seen = steps.Seen JobParts
 
 -- how often gate g is in a list of rounds and gates
-abbrev pub times : ℕ → List (ℕ × ℕ) → ℕ
-times g l = pairs 0 g l
+abbrev pub occurrences : ℕ → List (ℕ × ℕ) → ℕ
+occurrences g l = pairs 0 g l
 
 abbrev pub Ran : Seen → Seen → List (ℕ × ℕ) → ℕ → Type 0
 Ran old new made most = steps.Ran old new made most

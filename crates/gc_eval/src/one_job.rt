@@ -30,9 +30,9 @@ impl<A: Allocator, C: Allocator> Subject for OneJob<A, C> {
 }
 
 impl<A: Allocator, C: Allocator> Jobs for OneJob<A, C> {
-    ghost use Rattle.gc_eval.specs.OneJob.{job_of, one_job_law};
+    ghost use Rattle.gc_eval.specs.OneJob.{round_job, one_job_law};
 
-    ghost job_at = { job_of };
+    ghost job_at = { round_job };
 
     ghost laws = { one_job_law };
 }

@@ -7,8 +7,8 @@ ghost use Rattle.gc_gates.specs.Pairs.{pairs};
 ghost use Rattle.gc_gates.specs.Places.{IsGatePlace, IsPlaceInside};
 ghost use Rattle.gc_job.specs.ActiveLabels.{gates_of};
 ghost use Rattle.gc_eval.specs.Seats.{IsSeatOf, IsNew, view, job_on, seats_on};
-ghost use Rattle.gc_eval.specs.Done.{job_in, words_of, state_of};
-ghost use Rattle.gc_eval.specs.Views.{times};
+ghost use Rattle.gc_eval.specs.Done.{job_in, board_words, state_of};
+ghost use Rattle.gc_eval.specs.Views.{occurrences};
 
 use crate::active::Active;
 use crate::one_job::OneJob;
@@ -164,8 +164,8 @@ impl<'j, 'c, B: Allocator, A: Allocator, C: Allocator> EvalBoard<'j, 'c, B, A, C
         ensures exact { IsOk result ↔ (length seats.items ≡ seats_on self.entry) }
         ensures job { IfOk result (λ a. job_in a ≡ job_on self.entry) }
         ensures made { IfOk result (λ a. (g : ℕ)
-            → total (λ s. times g (view s).inner.made) seats.items
-            ≡ only DONE (state_of (words_of a) g)) }
+            → total (λ s. occurrences g (view s).inner.made) seats.items
+            ≡ only DONE (state_of (board_words a) g)) }
         // They made no gate in another round.
         ensures only_here { IfOk result (λ _. (r g : ℕ) → 0 < r
             → total (λ s. pairs r g (view s).inner.made) seats.items ≡ 0) }

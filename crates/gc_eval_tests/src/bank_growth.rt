@@ -5,7 +5,7 @@ use crate::jobs::together;
 use gc_bank::{Banks, evaluate_jobs};
 use gc_fixtures::circuits::many_ands;
 use gc_fixtures::compare::equal;
-use gc_fixtures::growths::{Answer, Met, answer_of, refusals_met};
+use gc_fixtures::growths::{Met, Returned, answer_of, refusals_met};
 use gc_fixtures::refusing::Refusing;
 use gc_job::{EvalFault, Job};
 use gc_workers::{Open, OpenFault};
@@ -55,7 +55,7 @@ fn refused_runs<R: AllocGlobal + Threads + Wait + Sync>(
                 EvalFault::Memory,
             )
         }
-        None => Answer::Other,
+        None => Returned::Other,
     })?;
     Ok(met)
 }

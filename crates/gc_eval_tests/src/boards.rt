@@ -9,7 +9,7 @@ use crate::fixtures::{on_job, on_zeros};
 use gc_eval::{Active, EvalBoard, EvalSeat};
 use gc_fixtures::circuits::{FULL_ADDER, mixed_chains};
 use gc_fixtures::compare::equal;
-use gc_fixtures::growths::{Answer as Run, runs_refused};
+use gc_fixtures::growths::{Returned, runs_refused};
 use gc_fixtures::refusing::Refusing;
 use gc_job::{EvalFault, Job};
 use gc_label::Label;
@@ -189,11 +189,11 @@ fn step_all<'j, 'c, B: Allocator>(board: &EvalBoard<'j, 'c, B>, job: &Job<'c>, s
 }
 
 /// What decoding over this memory returned.
-fn decoded(heap: &Refusing<Global>, active: &Active) -> Run {
+fn decoded(heap: &Refusing<Global>, active: &Active) -> Returned {
     match active.decode(heap) {
-        Ok(Some(_)) => Run::Plain,
-        Err(EvalFault::Memory) => Run::Memory,
-        _ => Run::Other,
+        Ok(Some(_)) => Returned::Plain,
+        Err(EvalFault::Memory) => Returned::Memory,
+        _ => Returned::Other,
     }
 }
 

@@ -6,7 +6,7 @@ use gc_file::{Version, read_garbled};
 use gc_fixtures::circuits::AND;
 use gc_fixtures::compare::equal;
 use gc_fixtures::files::{and_file, label_files};
-use gc_fixtures::growths::{Answer, answer_of, runs_refused};
+use gc_fixtures::growths::{Returned, answer_of, runs_refused};
 use gc_fixtures::refusing::Refusing;
 use gc_job::{BindFault, EvalFault, Job, evaluate};
 use std::alloc::{Allocator, Global};
@@ -21,7 +21,7 @@ fn binding(rt: HostRuntime) -> Result<(), Fail> {
     let labels = label_files(alloc, &circuit, &["1", "1"])?;
     let refused = runs_refused(alloc, |heap| {
         let Ok(garbled) = read_garbled(heap, &file) else {
-            return Answer::Memory;
+            return Returned::Memory;
         };
         answer_of(
             Job::bind(heap, &circuit, garbled, &labels),
@@ -51,7 +51,7 @@ fn decoded(alloc: Global, job: &Job) -> Result<(), Fail> {
     let label = job.active(0, job.input(0), job.input(1));
     let refused = runs_refused(alloc, |heap| {
         if job.circuit().output_wires() != 1 {
-            return Answer::Other;
+            return Returned::Other;
         }
         answer_of(job.decode(heap, &[label]), EvalFault::Memory)
     });

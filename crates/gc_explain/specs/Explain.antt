@@ -6,7 +6,7 @@ use Rattle.gc_netlist.specs.Place.{IsLocated}
 use Rattle.gc_circuit.specs.declared.locate.Located.{Located}
 use Rattle.gc_file.specs.declared.fault.FileFault.{FileFault}
 use Rattle.gc_file.specs.declared.fault.FileFault.TheVariants as file
-use Rattle.gc_file.specs.FileFault.{FirstFault, FirstLabelFault}
+use Rattle.gc_file.specs.FileFault.{FirstGarbledFault, FirstLabelFault}
 use Rattle.gc_disk.specs.Files.{FileBytes}
 use Rattle.gc_order.specs.Order.{OrderText, run, plain, check, locate, stats, by_depth, garble, deal, eval, jobs, list_labels, audit}
 use Rattle.gc_command.specs.declared.fault.Fault.{Fault}
@@ -16,19 +16,19 @@ use Rattle.gc_explain.specs.Places.{byte_place, file_place, located_place}
 use Rattle.gc_explain.specs.Output.{IsOutputPlace}
 
 -- the name of the circuit's file
-abbrev pub circuit_of : OrderText → List ℕ
-circuit_of (run circuit seed workers hex values) = circuit
-circuit_of (plain circuit hex values) = circuit
-circuit_of (check circuit) = circuit
-circuit_of (locate circuit) = circuit
-circuit_of (stats circuit) = circuit
-circuit_of (by_depth circuit out) = circuit
-circuit_of (garble circuit seed out version workers) = circuit
-circuit_of (deal circuit seed index value out) = circuit
-circuit_of (eval circuit garbled workers hex labels) = circuit
-circuit_of (jobs circuit list workers hex) = circuit
-circuit_of (list_labels circuit seed from count values) = circuit
-circuit_of (audit circuit seed garbled labels) = circuit
+abbrev pub circuit_name : OrderText → List ℕ
+circuit_name (run circuit seed workers hex values) = circuit
+circuit_name (plain circuit hex values) = circuit
+circuit_name (check circuit) = circuit
+circuit_name (locate circuit) = circuit
+circuit_name (stats circuit) = circuit
+circuit_name (by_depth circuit out) = circuit
+circuit_name (garble circuit seed out version workers) = circuit
+circuit_name (deal circuit seed index value out) = circuit
+circuit_name (eval circuit garbled workers hex labels) = circuit
+circuit_name (jobs circuit list workers hex) = circuit
+circuit_name (list_labels circuit seed from count values) = circuit
+circuit_name (audit circuit seed garbled labels) = circuit
 
 -- the line that tells a sentence of a place
 abbrev pub explanation_line : List ℕ → List ℕ → List ℕ
@@ -44,7 +44,7 @@ IsCircuitPlace bytes name fault place =
 
 -- A garbled file, or a label file, with these bytes has this first fault.
 abbrev pub HasFileFault : FileFault → List ℕ → Type 0
-HasFileFault fault bytes = FirstFault bytes fault ⊎ FirstLabelFault bytes fault
+HasFileFault fault bytes = FirstGarbledFault bytes fault ⊎ FirstLabelFault bytes fault
 
 -- The place is a byte of a file that has this first fault. Where the file can't be read once more, it is the whole
 -- file.
@@ -58,7 +58,7 @@ IsFilePlace bytes fault place =
 abbrev pub IsPlace : FileBytes → OrderText → Fault → List ℕ → Type 0
 IsPlace bytes order (Circuit read.Memory) place = place ≡ []
 IsPlace bytes order (Circuit fault) place =
-    IsCircuitPlace (bytes (circuit_of order)) (circuit_of order) fault place
+    IsCircuitPlace (bytes (circuit_name order)) (circuit_name order) fault place
 IsPlace bytes order (File file.Memory) place = Unit {0}
 IsPlace bytes order (File fault) place = IsFilePlace bytes fault place
 IsPlace bytes order (Evaluation (UnknownOutputLabel output)) place =

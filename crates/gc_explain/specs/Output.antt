@@ -14,8 +14,8 @@ use Rattle.gc_command.specs.Jobs.{NameJob}
 use Rattle.gc_explain.specs.Places.{file_place, line_place}
 
 -- The words name a job of the circuit that has this fault.
-abbrev pub HasEvaluationFault : FileBytes → Netlist → List (List ℕ) → EvalFault → Type 0
-HasEvaluationFault bytes c words fault =
+abbrev pub HasNamedJobFault : FileBytes → Netlist → List (List ℕ) → EvalFault → Type 0
+HasNamedJobFault bytes c words fault =
     (job : JobParts) × NameJob bytes c words job × IsEvaluated job (Err fault)
 
 -- The job on this line of the list, counted from 1, has an unknown label of this output.
@@ -29,7 +29,7 @@ pub record IsUnknownLine (bytes : FileBytes) (circuit list : List ℕ) (line out
   pub counted : line ≡ before + 1
   pub words : List ℕ
   pub at : slice_get (slice_split (λ b. b == 10) text) before ≡ Some words
-  pub unknown : HasEvaluationFault bytes c (tokens words) (UnknownOutputLabel output)
+  pub unknown : HasNamedJobFault bytes c (tokens words) (UnknownOutputLabel output)
 
 -- The place is that line. Where the files can't be read once more, it is the whole list.
 abbrev pub IsJobPlace : FileBytes → List ℕ → List ℕ → ℕ → List ℕ → Type 0

@@ -1,8 +1,8 @@
 //! Faults of a circuit's text.
 
 ghost use Rattle.std.specs.Prelude.{◌≡◌, IfSome};
-ghost use Rattle.gc_order.specs.Order.{text_of};
-ghost use Rattle.gc_explain.specs.Explain.{circuit_of, IsCircuitPlace};
+ghost use Rattle.gc_order.specs.Order.{order_text};
+ghost use Rattle.gc_explain.specs.Explain.{circuit_name, IsCircuitPlace};
 
 use crate::ended::Ended;
 use crate::sentence::{Explanation, located_place, on_file};
@@ -15,8 +15,9 @@ impl<A: Allocator + Copy, F: Reread> Ended<'_, A, F> {
     /// whole file.
     pub(crate) fn explain_circuit(&self, fault: ReadFault) -> Option<Explanation<A>>
         ensures { IfSome result (λ it.
-            IsCircuitPlace (F.bytes self.now.files.now (circuit_of (text_of self.now.order.now)))
-            (circuit_of (text_of self.now.order.now)) fault it.place.items) }
+            IsCircuitPlace (F.bytes self.now.files.now (circuit_name
+            (order_text self.now.order.now)))
+            (circuit_name (order_text self.now.order.now)) fault it.place.items) }
     {
         let name = self.circuit();
         if let Some(text) = self.read_again(name) {

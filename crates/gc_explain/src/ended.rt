@@ -3,7 +3,7 @@
 ghost use Rattle.std.specs.Prelude.{◌≡◌, map, IfSome};
 ghost use Rattle.gc_file.specs.GarbledFile.{IsGarbledFile};
 ghost use Rattle.gc_file.specs.LabelFile.{IsLabelFile};
-ghost use Rattle.gc_order.specs.Order.{text_of};
+ghost use Rattle.gc_order.specs.Order.{order_text};
 ghost use Rattle.gc_disk.specs.Files.{GivesFile};
 ghost use Rattle.gc_command.specs.CircuitFile.{IsCircuit};
 ghost use Rattle.gc_command.specs.Eval.{AreLabelFiles};
@@ -34,7 +34,7 @@ pub struct Ended<'a, A: Allocator, F> {
 impl<A: Allocator + Copy, F: Reread> Ended<'_, A, F> {
     /// The name of the circuit's file.
     pub(crate) fn circuit(&self) -> &str
-        ensures { result.now ≡ spec.circuit_of (text_of self.now.order.now) }
+        ensures { result.now ≡ spec.circuit_name (order_text self.now.order.now) }
     {
         let circuit = match self.order {
             Order::Run(run) => &run.circuit,

@@ -1,7 +1,7 @@
 //! The explanation of any fault.
 
 ghost use Rattle.std.specs.Prelude.{◌≡◌, [], IfSome};
-ghost use Rattle.gc_order.specs.Order.{text_of};
+ghost use Rattle.gc_order.specs.Order.{order_text};
 ghost use Rattle.gc_explain.specs.Explain.{Explains, IsPlace};
 
 use crate::ended::Ended;
@@ -22,7 +22,7 @@ impl<A: Allocator + Copy, F: Reread> Ended<'_, A, F> {
     /// refused.
     pub fn explain(&self, fault: Fault) -> Option<Vec<u8, A>>
         ensures { IfSome result (λ line.
-            Explains (F.bytes self.now.files.now) (text_of self.now.order.now) fault line.items) }
+            Explains (F.bytes self.now.files.now) (order_text self.now.order.now) fault line.items) }
     {
         let explanation = self.explanation_of(fault)?;
         explanation.line(self.alloc).ok()
@@ -31,7 +31,7 @@ impl<A: Allocator + Copy, F: Reread> Ended<'_, A, F> {
     /// Explains the fault.
     fn explanation_of(&self, fault: Fault) -> Option<Explanation<A>>
         ensures { IfSome result (λ it. IsPlace (F.bytes self.now.files.now)
-            (text_of self.now.order.now) fault it.place.items) }
+            (order_text self.now.order.now) fault it.place.items) }
     {
         match fault {
             Fault::Circuit(ReadFault::Memory) => self.explain_memory(),

@@ -8,7 +8,7 @@ use crate::ended::Ended;
 use crate::listed::JobNames;
 use crate::sentence::{Explanation, byte_place, file_place};
 use gc_disk::Reread;
-use gc_file::{FileFault, number_at, read_garbled, read_labels};
+use gc_file::{FileFault, read_garbled, read_labels, u32_at};
 use gc_netlist::MAX_GATES;
 use gc_order::{JobsOrder, Order};
 use std::alloc::Allocator;
@@ -175,7 +175,7 @@ fn count_at(bytes: &[u8], place: usize) -> u64
     if bytes.len() < place + 4 {
         return 0;
     }
-    u64::from(number_at(place, bytes))
+    u64::from(u32_at(place, bytes))
 }
 
 /// The first byte that isn't that of the magic.

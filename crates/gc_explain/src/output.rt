@@ -5,8 +5,8 @@ ghost use Rattle.std.specs.List.{slice_split};
 ghost use Rattle.sha2.specs.Sha256.{sha256};
 ghost use Rattle.gc_netlist.specs.Canon.{canonical_text};
 ghost use Rattle.gc_netlist.specs.Text.{tokens};
-ghost use Rattle.gc_order.specs.Order.{text_of};
-ghost use Rattle.gc_explain.specs.Output.{HasEvaluationFault, IsJobPlace, IsOutputPlace, IsUnknownLine};
+ghost use Rattle.gc_order.specs.Order.{order_text};
+ghost use Rattle.gc_explain.specs.Output.{HasNamedJobFault, IsJobPlace, IsOutputPlace, IsUnknownLine};
 
 use crate::ended::Ended;
 use crate::sentence::{Explanation, file_place, line_place, on_file};
@@ -22,7 +22,7 @@ impl<A: Allocator + Copy, F: Reread> Ended<'_, A, F> {
     /// Explains an output label that the garbled file doesn't recognise.
     pub(crate) fn explain_output(&self, output: u32) -> Option<Explanation<A>>
         ensures { IfSome result (λ it. IsOutputPlace (F.bytes self.now.files.now)
-            (text_of self.now.order.now) output it.place.items) }
+            (order_text self.now.order.now) output it.place.items) }
     {
         match self.order {
             Order::Eval(eval) => {
@@ -85,7 +85,7 @@ impl<A: Allocator + Copy, F: Reread> Ended<'_, A, F> {
     ) -> Option<EvalFault>
         requires { digest.now ≡ sha256 (canonical_text circuit.now) }
         ensures { IfSome result
-            (HasEvaluationFault (F.bytes self.now.files.now) circuit.now (tokens line.now)) }
+            (HasNamedJobFault (F.bytes self.now.files.now) circuit.now (tokens line.now)) }
     {
         let Ok(words) = words_of_line(self.alloc, line) else {
             return None;

@@ -1,5 +1,5 @@
 -- Bytes are a garbled file or have a first fault.
-use Rattle.gc_file.proofs.Names.{◌≡◌, ℕ, ◌-◌, ◌*◌, ◌%◌, ◌^◌, ◌≤◌, ◌⊎◌, inl, inr, List, ◌++◌, length, take, drop, Bool, true, false, bytes_eq, slice_index, refl, sym, ap, ◌∙◌, append_assoc, arith, cases_lt, take-append-drop, take-take, take_all, length-take, length-drop, length-take-le, MAX_GATES, MAX_WIRES, FileFault, BadMagic, Truncated, Trailing, CountTooLarge, SpareBits, BadTrailer, Version, bytes_for, GarbledParts, magic, entry_count, IsGarbledFile, IsBegun, row_count, output_count, decode_end, trailer_end, IsTrailerRight, HasHeader, HasSpareBit, HasDecodeBits, LastingFault, bad_magic, too_many_rows, too_many_outputs, spare_bits, bad_trailer, trailing, IsHeaderInOrder, IsInOrder, FirstFault, lasting, truncated, version_of, row_size, decode_size, entry_size, AreBytes, number_at-append, version_of-begun}
+use Rattle.gc_file.proofs.Names.{◌≡◌, ℕ, ◌-◌, ◌*◌, ◌%◌, ◌^◌, ◌≤◌, ◌⊎◌, inl, inr, List, ◌++◌, length, take, drop, Bool, true, false, bytes_eq, slice_index, refl, sym, ap, ◌∙◌, append_assoc, arith, cases_lt, take-append-drop, take-take, take_all, length-take, length-drop, length-take-le, MAX_GATES, MAX_WIRES, FileFault, BadMagic, Truncated, Trailing, CountTooLarge, SpareBits, BadTrailer, Version, bytes_for, GarbledParts, magic, entry_count, IsGarbledFile, MatchesMagic, row_count, output_count, decode_end, trailer_end, IsTrailerRight, HasHeader, HasSpareBit, HasDecodeBits, LastingFault, bad_magic, too_many_rows, too_many_outputs, spare_bits, bad_trailer, trailing, IsHeaderInOrder, IsInOrder, FirstGarbledFault, lasting, truncated, version_of_bytes, row_size, decode_size, entry_size, AreBytes, u32_at-append, version_of_bytes-begun}
 use Rattle.std.specs.Bool.{Decides}
 use Rattle.std.proofs.lemmas.Slice.Eq.{bytes_eq-Decides}
 use Rattle.gc_file.specs.declared.parts.Version.TheVariants.{One, Two}
@@ -34,16 +34,16 @@ module _ (v : Version) (b : List ℕ) (are : AreBytes b) (in_order : IsInOrder v
   whole : length h ≡ 48
   whole = length-take-le 48 b (omega arith)
 
-  version : version_of h ≡ v
-  version = version_of-begun v h (take-take 8 48 b (omega arith)
+  version : version_of_bytes h ≡ v
+  version = version_of_bytes-begun v h (take-take 8 48 b (omega arith)
       ∙ begins v b (omega arith) in_order.header.begun)
 
   rows : row_count h ≡ row_count b
-  rows = sym (number_at-append 40 h (drop 48 b) (omega (arith, whole)))
+  rows = sym (u32_at-append 40 h (drop 48 b) (omega (arith, whole)))
       ∙ ap row_count (take-append-drop 48 b)
 
   outputs : output_count h ≡ output_count b
-  outputs = sym (number_at-append 44 h (drop 48 b) (omega (arith, whole)))
+  outputs = sym (u32_at-append 44 h (drop 48 b) (omega (arith, whole)))
       ∙ ap output_count (take-append-drop 48 b)
 
   sizes : (row_size h ≡ 32 * row_count b) × (decode_size h ≡ bytes_for (output_count b))
@@ -71,7 +71,8 @@ module _ (v : Version) (b : List ℕ) (are : AreBytes b) (in_order : IsInOrder v
       let are_entries = AreBytes-drop (decode_size h) (after_rows b) are_decode in
       let row_items = items_spelled row_spelling (row_count h) r rows_full
       (AreBytes-take (row_size h) (drop 48 b) are_rest) in
-      let entry_items = items_spelled entry_spelling (entry_count (version_of h) (output_count h)) e
+      let entry_items = items_spelled entry_spelling (entry_count (version_of_bytes h)
+      (output_count h)) e
       entries_full (AreBytes-take (entry_size h) (after_decode b) are_entries) in
       rw cut at (file_is h r d e t (parts_in b) whole
       (record {
@@ -122,7 +123,7 @@ right_or_not : (v : Version) (b : List ℕ) → (IsTrailerRight v b → ⊥) ⊎
 right_or_not v b = other_or_same _ _
 
 abbrev pub Judged : List ℕ → Type 0
-Judged b = ((p : GarbledParts) × IsGarbledFile b p) ⊎ ((e : FileFault) × FirstFault b e)
+Judged b = ((p : GarbledParts) × IsGarbledFile b p) ⊎ ((e : FileFault) × FirstGarbledFault b e)
 
 fault : {b : List ℕ} (e : FileFault) → LastingFault b e → Judged b
 fault e is = inr (e, lasting e is)
@@ -166,7 +167,7 @@ module _ (v : Version) (b : List ℕ) (are : AreBytes b) where
       decoded none reaches =
           record { header = has (omega arith); whole = reaches; no_spare_bit = none reaches }
 
-  judged_begun : IsBegun (magic v) b → Judged b
+  judged_begun : MatchesMagic (magic v) b → Judged b
   judged_begun begun = elim (reached 44 (length b) (cases_lt MAX_GATES (row_count b))) [
     | inl many ↦ fault CountTooLarge
         (too_many_rows v (begins v b (omega (arith, many.0)) begun) many.0 many.1)
@@ -189,7 +190,7 @@ judged b are =
       ]
     ]
   where
-    both : (IsBegun (magic One) b → ⊥) → (IsBegun (magic Two) b → ⊥)
-        → (v : Version) → IsBegun (magic v) b → ⊥
+    both : (MatchesMagic (magic One) b → ⊥) → (MatchesMagic (magic Two) b → ⊥)
+        → (v : Version) → MatchesMagic (magic v) b → ⊥
     both other neither One = other
     both other neither Two = neither

@@ -1,14 +1,14 @@
 -- Bytes are one garbled file or have one first fault.
-use Rattle.gc_file.proofs.Names.{◌≡◌, ℕ, ◌<◌, ◌≤◌, ◌⊎◌, inl, inr, List, length, take, refl, sym, ◌∙◌, arith, MAX_GATES, MAX_WIRES, FileFault, BadMagic, Trailing, CountTooLarge, SpareBits, BadTrailer, Version, magic, IsBegun, row_count, output_count, HasHeader, HasSpareBit, HasDecodeBits, IsTrailerRight, LastingFault, bad_magic, too_many_rows, too_many_outputs, spare_bits, bad_trailer, trailing, IsInOrder, FirstFault, lasting, truncated, version_of-begun}
+use Rattle.gc_file.proofs.Names.{◌≡◌, ℕ, ◌<◌, ◌≤◌, ◌⊎◌, inl, inr, List, length, take, refl, sym, ◌∙◌, arith, MAX_GATES, MAX_WIRES, FileFault, BadMagic, Trailing, CountTooLarge, SpareBits, BadTrailer, Version, magic, MatchesMagic, row_count, output_count, HasHeader, HasSpareBit, HasDecodeBits, IsTrailerRight, LastingFault, bad_magic, too_many_rows, too_many_outputs, spare_bits, bad_trailer, trailing, IsInOrder, FirstGarbledFault, lasting, truncated, version_of_bytes-begun}
 use Rattle.gc_file.proofs.PlaceLemmas.{begins, begun}
 
 -- The first eight bytes give the version.
 pub one_version : (v w : Version) (b : List ℕ) → take 8 b ≡ magic v → take 8 b ≡ magic w → v ≡ w
-one_version v w b is is' = sym (version_of-begun v b is) ∙ version_of-begun w b is'
+one_version v w b is is' = sym (version_of_bytes-begun v b is) ∙ version_of_bytes-begun w b is'
 
 -- A fault that stays is the only one.
 module _ (b : List ℕ) (f : FileFault) (y : LastingFault b f) where
-  only_magic : ((v : Version) → IsBegun (magic v) b → ⊥) → f ≡ BadMagic
+  only_magic : ((v : Version) → MatchesMagic (magic v) b → ⊥) → f ≡ BadMagic
   only_magic none = grind (arith, none, begun)
 
   module _ (v : Version) where
@@ -38,7 +38,8 @@ one_lasting b _ f (trailing v has more right) y = sym (only_trailing b f y v has
 pub no_lasting : (v : Version) (b : List ℕ) → IsInOrder v b → (e : FileFault) → LastingFault b e → ⊥
 no_lasting v b in_order e x = grind (arith, one_version, begins)
 
-pub one_fault : (b : List ℕ) (e f : FileFault) → FirstFault b e → FirstFault b f → e ≡ f
+pub one_fault : (b : List ℕ) (e f : FileFault) → FirstGarbledFault b e → FirstGarbledFault b f
+    → e ≡ f
 one_fault b _ _ (lasting e x) (lasting f y) = one_lasting b e f x y
 one_fault b _ _ (lasting e x) (truncated v in_order short) = absurd (no_lasting v b in_order e x)
 one_fault b _ _ (truncated v in_order short) (lasting f y) = absurd (no_lasting v b in_order f y)

@@ -1,5 +1,5 @@
 -- Parts that are whole are a garbled file.
-use Rattle.gc_file.proofs.ReaderNames.{◌≡◌, ℕ, ◌+◌, ◌<◌, List, ◌++◌, length, take, drop, map, flat_map, get_or, All, refl, sym, ap, arith, range_with_len, take-add, length-map-range_with_len, sha256, bit_in, IsSpare, number_bytes, GarbledParts, magic, row_bytes, entry_bytes, body, garbled_file, entry_count, IsLabel, IsGarbledFile, row_count, output_count, IsHeaderInOrder, version_of, row_size, decode_size, entry_size, number_bytes-number_at}
+use Rattle.gc_file.proofs.ReaderNames.{◌≡◌, ℕ, ◌+◌, ◌<◌, List, ◌++◌, length, take, drop, map, flat_map, get_or, All, refl, sym, ap, arith, range_with_len, take-add, length-map-range_with_len, sha256, bit_in, IsSpare, number_bytes, GarbledParts, magic, row_bytes, entry_bytes, body, garbled_file, entry_count, IsLabel, IsGarbledFile, row_count, output_count, IsHeaderInOrder, version_of_bytes, row_size, decode_size, entry_size, number_bytes-u32_at}
 use Rattle.std.proofs.lemmas.List.{take_all, length-take-le, length-drop}
 use Rattle.gc_file.proofs.LabelBytesLemmas.{length-row_bytes, length-entry_bytes}
 use Rattle.gc_file.proofs.PairLemmas.{length-pairs}
@@ -12,17 +12,17 @@ pub take_plus : {X : Type 0} (a b : ℕ) (xs : List X)
 take_plus a b xs = sym (take-add a b xs)
 
 -- A header, in its parts.
-pub header_parts : (h digest : List ℕ) → length h ≡ 48 → IsHeaderInOrder (version_of h) h
+pub header_parts : (h digest : List ℕ) → length h ≡ 48 → IsHeaderInOrder (version_of_bytes h) h
     → ((i : ℕ) → get_or h i 0 < 256)
     → digest ≡ take 32 (drop 8 h)
-    → magic (version_of h) ++ digest ++ number_bytes (row_count h)
+    → magic (version_of_bytes h) ++ digest ++ number_bytes (row_count h)
     ++ number_bytes (output_count h) ≡ h
 header_parts h digest whole in_order small is =
     rw (
       is,
-      ← begins (version_of h) h (omega arith) in_order.begun,
-      number_bytes-number_at 40 h (omega arith) small,
-      number_bytes-number_at 44 h (omega arith) small,
+      ← begins (version_of_bytes h) h (omega arith) in_order.begun,
+      number_bytes-u32_at 40 h (omega arith) small,
+      number_bytes-u32_at 44 h (omega arith) small,
       take_plus 8 32 h,
       take_plus 40 4 h,
       take_plus 44 4 h,
@@ -30,12 +30,12 @@ header_parts h digest whole in_order small is =
     (take_all 48 h (omega arith))
 
 module _ (h r d e t : List ℕ) (p : GarbledParts) (whole : length h ≡ 48)
-    (in_order : IsHeaderInOrder (version_of h) h)
+    (in_order : IsHeaderInOrder (version_of_bytes h) h)
     (rows_full : length r ≡ row_size h) (decode_full : length d ≡ decode_size h)
     (entries_full : length e ≡ entry_size h)
     (none : IsSpare (output_count h) d → ⊥) (right : t ≡ sha256 (h ++ r ++ d ++ e))
     (small_header : (i : ℕ) → get_or h i 0 < 256) (small_decode : (i : ℕ) → get_or d i 0 < 256)
-    (version_is : p.version ≡ version_of h) (digest_is : p.digest ≡ take 32 (drop 8 h))
+    (version_is : p.version ≡ version_of_bytes h) (digest_is : p.digest ≡ take 32 (drop 8 h))
     (rows_are : flat_map row_bytes p.rows ≡ r) (entries_are : flat_map entry_bytes p.entries ≡ e)
     (bits_are : p.decode_bits ≡ map (bit_in d) (range_with_len 0 (output_count h))) where
   row_number : length p.rows ≡ row_count h
@@ -44,7 +44,7 @@ module _ (h r d e t : List ℕ) (p : GarbledParts) (whole : length h ≡ 48)
   bit_number : length p.decode_bits ≡ output_count h
   bit_number = rw (bits_are, length-map-range_with_len) refl
 
-  entry_number : length p.entries ≡ entry_count (version_of h) (output_count h)
+  entry_number : length p.entries ≡ entry_count (version_of_bytes h) (output_count h)
   entry_number =
       omega (arith, length-pairs entry_bytes length-entry_bytes p.entries, ap length entries_are)
 

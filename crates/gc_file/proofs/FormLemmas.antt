@@ -1,16 +1,16 @@
 -- Bytes of the form of a label file.
-use Rattle.gc_file.proofs.ReaderNames.{◌≡◌, ℕ, ◌<◌, ◌≤◌, List, ◌++◌, length, take, drop, flat_map, get_or, All, sym, ap, ◌∙◌, arith, bytes_of_label, length-bytes_of_label, number_bytes, number_at, IsLabel, number_at-lt, number_bytes-number_at, IsBegun, label_count, IsLabelForm}
+use Rattle.gc_file.proofs.ReaderNames.{◌≡◌, ℕ, ◌<◌, ◌≤◌, List, ◌++◌, length, take, drop, flat_map, get_or, All, sym, ap, ◌∙◌, arith, bytes_of_label, length-bytes_of_label, number_bytes, u32_at, IsLabel, u32_at-lt, number_bytes-u32_at, MatchesMagic, label_count, IsLabelForm}
 use Rattle.std.proofs.lemmas.List.{take-append-drop, take_all, length-drop}
 use Rattle.gc_file.specs.LabelFile.{label_magic, label_file, IsLabelFile}
 use Rattle.gc_file.proofs.PairLemmas.{length-items}
 use Rattle.gc_file.proofs.FileLemmas.{take_plus}
 
-pub begins : (b : List ℕ) → 8 ≤ length b → IsBegun label_magic b → take 8 b ≡ label_magic
+pub begins : (b : List ℕ) → 8 ≤ length b → MatchesMagic label_magic b → take 8 b ≡ label_magic
 begins b long begun = begun ∙ take_all (length b) label_magic long
 
 -- Bytes of the form of a label file are the one with these labels.
 pub label_file_is : (b : List ℕ) → ((i : ℕ) → get_or b i 0 < 256) → IsLabelForm b
-    → (index : ℕ) → index ≡ number_at 8 b → (labels : List ℕ)
+    → (index : ℕ) → index ≡ u32_at 8 b → (labels : List ℕ)
     → flat_map bytes_of_label labels ≡ drop 16 b → All IsLabel labels
     → IsLabelFile b (record { index = index; labels = labels })
 unfolding label_file
@@ -19,7 +19,7 @@ label_file_is b are form index index_is labels labels_are each =
     let same = ap length labels_are in
     let rest = length-drop 16 b in
     let count : length labels ≡ label_count b = omega arith in
-    let fits = number_at-lt 8 b are in
+    let fits = u32_at-lt 8 b are in
     record {
       index = omega arith;
       few_labels = omega arith;
@@ -30,8 +30,8 @@ label_file_is b are form index index_is labels labels_are each =
             index_is,
             count,
             labels_are,
-            number_bytes-number_at 8 b (omega arith) are,
-            number_bytes-number_at 12 b (omega arith) are,
+            number_bytes-u32_at 8 b (omega arith) are,
+            number_bytes-u32_at 12 b (omega arith) are,
             take_plus 8 4 b,
             take_plus 12 4 b,
           ) (take-append-drop 16 b));

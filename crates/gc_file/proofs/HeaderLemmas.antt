@@ -1,12 +1,12 @@
 -- The header of a garbled file.
-use Rattle.gc_file.proofs.ReaderNames.{◌≡◌, ℕ, ◌-◌, ◌<◌, ◌≤◌, List, ◌++◌, length, take, drop, slice_index, refl, sym, ap, ◌∙◌, append_assoc, length-append, arith, FileFault, Version, magic, IsBegun, row_count, output_count, decode_end, entries_end, trailer_end, IsTrailerRight, HasHeader, HasSpareBit, HasDecodeBits, LastingFault, bad_magic, too_many_rows, too_many_outputs, spare_bits, bad_trailer, trailing, IsHeaderInOrder, IsInOrder, number_at-append}
+use Rattle.gc_file.proofs.ReaderNames.{◌≡◌, ℕ, ◌-◌, ◌<◌, ◌≤◌, List, ◌++◌, length, take, drop, slice_index, refl, sym, ap, ◌∙◌, append_assoc, length-append, arith, FileFault, Version, magic, MatchesMagic, row_count, output_count, decode_end, entries_end, trailer_end, IsTrailerRight, HasHeader, HasSpareBit, HasDecodeBits, LastingFault, bad_magic, too_many_rows, too_many_outputs, spare_bits, bad_trailer, trailing, IsHeaderInOrder, IsInOrder, u32_at-append}
 use Rattle.std.proofs.lemmas.List.{take_at, take_all, length-take, take-append-le, take-take, take-append-drop, drop-append-le, get_or_append_left, length-drop}
 
 take_both : (n m : ℕ) (xs : List ℕ) → take n (take m xs) ≡ take m (take n xs)
 take_both n m xs = grind (arith, take-take {A = ℕ}, take_all {A = ℕ}, length-take {A = ℕ})
 
 -- A beginning of bytes that begin with a magic is one of it too.
-pub begun_before : (m bytes more : List ℕ) → IsBegun m (bytes ++ more) → IsBegun m bytes
+pub begun_before : (m bytes more : List ℕ) → MatchesMagic m (bytes ++ more) → MatchesMagic m bytes
 begun_before m bytes more begun =
     ap (take 8) (sym (take_at bytes more (length bytes) refl))
     ∙ take_both 8 (length bytes) (bytes ++ more)
@@ -26,10 +26,10 @@ header_in_order v bytes short header = record {
 -- What holds of bytes stays when more follow.
 module _ (bytes more : List ℕ) where
   outputs-more : 48 ≤ length bytes → output_count (bytes ++ more) ≡ output_count bytes
-  outputs-more long = number_at-append 44 bytes more (omega arith)
+  outputs-more long = u32_at-append 44 bytes more (omega arith)
 
   rows-more : 44 ≤ length bytes → row_count (bytes ++ more) ≡ row_count bytes
-  rows-more long = number_at-append 40 bytes more (omega arith)
+  rows-more long = u32_at-append 40 bytes more (omega arith)
 
   decode_end-more : 48 ≤ length bytes → decode_end (bytes ++ more) ≡ decode_end bytes
   decode_end-more long = rw (rows-more (omega arith), outputs-more long) refl

@@ -1,5 +1,5 @@
 -- Label files.
-use Rattle.gc_file.proofs.Names.{◌≡◌, ◌≢◌, ℕ, ◌+◌, ◌*◌, ◌≤◌, ◌⊎◌, inl, inr, List, ◌++◌, length, take, drop, flat_map, refl, sym, ap, ◌∙◌, append_assoc, length-append, arith, cases_lt, take-append-le, drop_at, take_all, length-drop, MAX_WIRES, bytes_of_label, label_of_bytes, length-bytes_of_label, FileFault, BadMagic, Truncated, Trailing, CountTooLarge, number_bytes, number_at, IsBegun, label_count, labels_end, FirstLabelFault, bad_label_magic, too_many_labels, labels_trailing, header_truncated, labels_truncated, AreBytes, length-number_bytes, number_at-append, number_at-number_bytes, length-items}
+use Rattle.gc_file.proofs.Names.{◌≡◌, ◌≢◌, ℕ, ◌+◌, ◌*◌, ◌≤◌, ◌⊎◌, inl, inr, List, ◌++◌, length, take, drop, flat_map, refl, sym, ap, ◌∙◌, append_assoc, length-append, arith, cases_lt, take-append-le, drop_at, take_all, length-drop, MAX_WIRES, bytes_of_label, label_of_bytes, length-bytes_of_label, FileFault, BadMagic, Truncated, Trailing, CountTooLarge, number_bytes, u32_at, MatchesMagic, label_count, labels_end, FirstLabelFault, bad_label_magic, too_many_labels, labels_trailing, header_truncated, labels_truncated, AreBytes, length-number_bytes, u32_at-append, u32_at-number_bytes, length-items}
 use Rattle.gc_file.specs.LabelFile.{LabelFileParts, label_magic, label_file, IsLabelFile}
 use Rattle.gc_file.proofs.HeaderLemmas.{begun_before}
 use Rattle.gc_file.proofs.FormLemmas.{begins, label_file_is}
@@ -9,7 +9,7 @@ use Rattle.gc_file.proofs.EitherLemmas.{other_or_same}
 -- What the bytes of a label file hold.
 abbrev labels_in : List ℕ → LabelFileParts
 labels_in b = record {
-  index = number_at 8 b;
+  index = u32_at 8 b;
   labels = items_from 16 label_of_bytes (label_count b) (drop 16 b);
 }
 
@@ -28,13 +28,13 @@ module _ (b : List ℕ) (p : LabelFileParts) (file : IsLabelFile b p) where
     length-items 16 bytes_of_label length-bytes_of_label,
   ) (omega arith)
 
-  file_index : number_at 8 b ≡ p.index
+  file_index : u32_at 8 b ≡ p.index
   file_index = rw (spelled, append_assoc, append_assoc)
-      (number_at-number_bytes 8 p.index label_magic _ refl file.index)
+      (u32_at-number_bytes 8 p.index label_magic _ refl file.index)
 
   file_count : label_count b ≡ length p.labels
   file_count = rw (spelled, append_assoc (label_magic ++ number_bytes p.index))
-      (number_at-number_bytes 12 (length p.labels) (label_magic ++ number_bytes p.index) labels
+      (u32_at-number_bytes 12 (length p.labels) (label_magic ++ number_bytes p.index) labels
       (omega (arith, length-append {A = ℕ}, length-number_bytes)) (omega (arith, file.few_labels)))
 
   file_rest : drop 16 b ≡ labels
@@ -45,7 +45,7 @@ module _ (b : List ℕ) (p : LabelFileParts) (file : IsLabelFile b p) where
   file_labels =
       rw (file_index, file_count, file_rest, items_back label_spelling p.labels file.labels) refl
 
-  file_begun : IsBegun label_magic b
+  file_begun : MatchesMagic label_magic b
   file_begun = ap (take 8) spelled
       ∙ sym (take_all (length b) label_magic (omega (arith, file_length)))
 
@@ -62,7 +62,8 @@ pub not_both : (b : List ℕ) (p : LabelFileParts) (e : FileFault) → IsLabelFi
 not_both b p e file x =
     grind (arith, file_begun b p file, file_length b p file, file_count b p file)
 
-still : (b more : List ℕ) → 8 ≤ length b → IsBegun label_magic b → IsBegun label_magic (b ++ more)
+still : (b more : List ℕ) → 8 ≤ length b → MatchesMagic label_magic b
+    → MatchesMagic label_magic (b ++ more)
 still b more long begun = take-append-le 8 b more long ∙ begins b long begun
     ∙ sym (take_all (length (b ++ more)) label_magic (omega (arith, length-append b more)))
 
@@ -73,9 +74,9 @@ lasts b _ more other (bad_label_magic none) =
     bad_label_magic (λ is. none (begun_before label_magic b more is))
 lasts b _ more other (too_many_labels begun long many) =
     too_many_labels (still b more (omega arith) begun) (omega (arith, length-append b more))
-    (rw (number_at-append 12 b more (omega arith)) many)
+    (rw (u32_at-append 12 b more (omega arith)) many)
 lasts b _ more other (labels_trailing begun long few after) =
-    let count = number_at-append 12 b more (omega arith) in
+    let count = u32_at-append 12 b more (omega arith) in
     labels_trailing (still b more (omega arith) begun) (omega (arith, length-append b more))
     (rw count few)
     (omega (arith, length-append b more, count))
@@ -102,7 +103,7 @@ judged b are = elim (other_or_same (take 8 b) (take (length b) label_magic)) [
                 labels_in b,
                 label_file_is b (small b are)
                     (record { begun = begun; header = long; few_labels = few; whole = omega arith })
-                    (number_at 8 b) refl (labels_in b).labels labels.0 labels.1,
+                    (u32_at 8 b) refl (labels_in b).labels labels.0 labels.1,
               )
         ]
       ]

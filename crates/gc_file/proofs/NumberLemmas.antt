@@ -6,13 +6,13 @@ use Rattle.std.specs.Int.{w32, from_le_bytes}
 use Rattle.std.proofs.lemmas.Nat.{le_bytes_4}
 use Rattle.byteorder.specs.Endian.{little_bytes, little_number}
 use Rattle.byteorder.specs.Numbers.{little_number-reads_back, little_from-append, little_from-lt, length-bytes_low_first}
-use Rattle.gc_file.specs.Number.{number_bytes, number_at}
+use Rattle.gc_file.specs.Number.{number_bytes, u32_at}
 
 -- A number stays the same whatever follows.
-pub number_at-append : (place : ℕ) (xs ys : List ℕ) → place + 4 ≤ length xs
-    → number_at place (xs ++ ys) ≡ number_at place xs
-unfolding number_at
-number_at-append place xs ys within =
+pub u32_at-append : (place : ℕ) (xs ys : List ℕ) → place + 4 ≤ length xs
+    → u32_at place (xs ++ ys) ≡ u32_at place xs
+unfolding u32_at
+u32_at-append place xs ys within =
     ap (little_number 4) (drop-append-le place xs ys (omega arith))
     ∙ little_from-append 4 (drop place xs) ys (omega (arith, length-drop place xs))
 
@@ -21,20 +21,20 @@ unfolding number_bytes
 length-number_bytes n = length-bytes_low_first 0 4 n
 
 -- The number whose bytes are at a place is read there.
-pub number_at-number_bytes : (place n : ℕ) (before after : List ℕ) → length before ≡ place
+pub u32_at-number_bytes : (place n : ℕ) (before after : List ℕ) → length before ≡ place
     → n < 2 ^ 32
-    → number_at place (before ++ (number_bytes n ++ after)) ≡ n
-unfolding number_at number_bytes
-number_at-number_bytes place n before after at fits =
+    → u32_at place (before ++ (number_bytes n ++ after)) ≡ n
+unfolding u32_at number_bytes
+u32_at-number_bytes place n before after at fits =
     ap (little_number 4) (drop_at before (little_bytes 4 n ++ after) place at)
     ∙ little_number-reads_back 4 n after fits
 
 -- The bytes of a number that was read are those that it was read from.
-pub number_bytes-number_at : (place : ℕ) (bytes : List ℕ) → place + 4 ≤ length bytes
+pub number_bytes-u32_at : (place : ℕ) (bytes : List ℕ) → place + 4 ≤ length bytes
     → ((i : ℕ) → get_or bytes i 0 < 256)
-    → number_bytes (number_at place bytes) ≡ take 4 (drop place bytes)
-unfolding number_at number_bytes
-number_bytes-number_at place bytes within small =
+    → number_bytes (u32_at place bytes) ≡ take 4 (drop place bytes)
+unfolding u32_at number_bytes
+number_bytes-u32_at place bytes within small =
     let xs = drop place bytes in
     let same : little_number 4 xs ≡ from_le_bytes w32 (take 4 xs) =
     omega (
@@ -54,10 +54,10 @@ number_bytes-number_at place bytes within small =
     ]) same
 
 -- A number that was read fits into its four bytes.
-pub number_at-lt : (place : ℕ) (bytes : List ℕ) → ((i : ℕ) → get_or bytes i 0 < 256)
-    → number_at place bytes < 2 ^ 32
-unfolding number_at
-number_at-lt place bytes small =
+pub u32_at-lt : (place : ℕ) (bytes : List ℕ) → ((i : ℕ) → get_or bytes i 0 < 256)
+    → u32_at place bytes < 2 ^ 32
+unfolding u32_at
+u32_at-lt place bytes small =
     let fits = little_from-lt 0 4 (drop place bytes)
     (λ i. rw (get_or-drop place bytes i 0) (small (place + i))) in
     omega arith

@@ -1,5 +1,5 @@
 -- The parts of a garbled file are determined by its bytes.
-use Rattle.gc_file.proofs.Names.{◌≡◌, ℕ, List, [], ◌++◌, length, take, drop, map, flat_map, refl, sym, ap, ◌∙◌, append_assoc, length-append, arith, append-nil, take_at, drop_at, length-row_bytes, length-entry_bytes, number_bytes, packed, bit_in, GarbledParts, magic, row_bytes, entry_bytes, header, body, garbled_file, entry_count, IsGarbledFile, row_count, output_count, trailer_end, IsInOrder, FirstFault, lasting, truncated, FileFault, version_of, row_size, decode_size, entry_size, length-number_bytes, number_at-number_bytes, length-pairs, version_of-begun}
+use Rattle.gc_file.proofs.Names.{◌≡◌, ℕ, List, [], ◌++◌, length, take, drop, map, flat_map, refl, sym, ap, ◌∙◌, append_assoc, length-append, arith, append-nil, take_at, drop_at, length-row_bytes, length-entry_bytes, number_bytes, packed, bit_in, GarbledParts, magic, row_bytes, entry_bytes, header, body, garbled_file, entry_count, IsGarbledFile, row_count, output_count, trailer_end, IsInOrder, FirstGarbledFault, lasting, truncated, FileFault, version_of_bytes, row_size, decode_size, entry_size, length-number_bytes, u32_at-number_bytes, length-pairs, version_of_bytes-begun}
 use Rattle.std.specs.List.{range_with_len}
 use Rattle.sha2.specs.Sha256.{sha256}
 use Rattle.sha2.proofs.Facts256.{length-sha256}
@@ -11,11 +11,11 @@ use Rattle.gc_file.proofs.FaultLemmas.{one_version, no_lasting}
 -- What the bytes of the parts of a file hold: header, rows, decode bits and entries.
 abbrev pub parts_from : List ℕ → List ℕ → List ℕ → List ℕ → GarbledParts
 parts_from h r d e = record {
-  version = version_of h;
+  version = version_of_bytes h;
   digest = take 32 (drop 8 h);
   rows = items_from 32 row_of (row_count h) r;
   decode_bits = map (bit_in d) (range_with_len 0 (output_count h));
-  entries = items_from 32 entry_of (entry_count (version_of h) (output_count h)) e;
+  entries = items_from 32 entry_of (entry_count (version_of_bytes h) (output_count h)) e;
 }
 
 -- The header of a file, and the bytes after each part.
@@ -61,8 +61,8 @@ module _ (b : List ℕ) (p : GarbledParts) (file : IsGarbledFile b p) where
   header_magic = rw (append_assoc, append_assoc)
       (take_at (magic p.version) _ 8 (length-magic p.version))
 
-  header_version : version_of (header p) ≡ p.version
-  header_version = version_of-begun p.version (header p) header_magic
+  header_version : version_of_bytes (header p) ≡ p.version
+  header_version = version_of_bytes-begun p.version (header p) header_magic
 
   header_digest : take 32 (drop 8 (header p)) ≡ p.digest
   header_digest =
@@ -71,7 +71,7 @@ module _ (b : List ℕ) (p : GarbledParts) (file : IsGarbledFile b p) where
 
   header_rows : row_count (header p) ≡ length p.rows
   header_rows = rw (append_assoc (magic p.version ++ p.digest) (number_bytes (length p.rows)))
-      (number_at-number_bytes 40 (length p.rows) (magic p.version ++ p.digest) _
+      (u32_at-number_bytes 40 (length p.rows) (magic p.version ++ p.digest) _
       (omega (arith, length-append {A = ℕ}, length-magic, file.digest))
       (omega (arith, file.few_rows)))
 
@@ -79,7 +79,7 @@ module _ (b : List ℕ) (p : GarbledParts) (file : IsGarbledFile b p) where
   header_outputs = ap (λ l. output_count (magic p.version ++ p.digest
       ++ number_bytes (length p.rows) ++ l))
       (sym (append-nil (number_bytes (length p.decode_bits))))
-      ∙ number_at-number_bytes 44 (length p.decode_bits)
+      ∙ u32_at-number_bytes 44 (length p.decode_bits)
       (magic p.version ++ p.digest ++ number_bytes (length p.rows)) []
       (omega (arith, length-append {A = ℕ}, length-magic, length-number_bytes, file.digest))
       (omega (arith, file.few_outputs))
@@ -112,7 +112,7 @@ module _ (b : List ℕ) (p : GarbledParts) (file : IsGarbledFile b p) where
       ) refl
 
   -- A file is in order, and whole.
-  file_in_order : IsInOrder (version_of (header p)) b
+  file_in_order : IsInOrder (version_of_bytes (header p)) b
   unfolding garbled_file
   file_in_order = rw file.spelled (parts_in_order (header p) (flat_map row_bytes p.rows)
       (packed p.decode_bits) (flat_map entry_bytes p.entries) (sha256 (body p)) length-header
@@ -125,7 +125,7 @@ module _ (b : List ℕ) (p : GarbledParts) (file : IsGarbledFile b p) where
       (search (arith, rows_full, decode_full, entries_full, length-sha256 (body p)))
       (λ full spare. packed-not_spare p.decode_bits (rw header_outputs at spare)) (λ full. refl))
 
-  file_whole : length b ≡ trailer_end (version_of (header p)) b
+  file_whole : length b ≡ trailer_end (version_of_bytes (header p)) b
   unfolding garbled_file
   file_whole = rw file.spelled (
       let ends = entries_end_is (header p) (flat_map row_bytes p.rows) (packed p.decode_bits)
@@ -136,14 +136,14 @@ module _ (b : List ℕ) (p : GarbledParts) (file : IsGarbledFile b p) where
 
 -- A file has no fault.
 pub file_not_fault : (b : List ℕ) (p : GarbledParts) (e : FileFault) → IsGarbledFile b p
-    → FirstFault b e → ⊥
-file_not_fault b p _ file (lasting e is) = no_lasting (version_of (header p)) b
+    → FirstGarbledFault b e → ⊥
+file_not_fault b p _ file (lasting e is) = no_lasting (version_of_bytes (header p)) b
     (file_in_order b p file) e is
 file_not_fault b p _ file (truncated v in_order short) =
     let whole = file_whole b p file in
-    let same = one_version v (version_of (header p)) b
+    let same = one_version v (version_of_bytes (header p)) b
     (begins v b (omega arith) in_order.header.begun)
-    (begins (version_of (header p)) b (omega arith) (file_in_order b p file).header.begun) in
+    (begins (version_of_bytes (header p)) b (omega arith) (file_in_order b p file).header.begun) in
     let less = rw same at short in
     omega arith
 

@@ -7,18 +7,18 @@ pub use Rattle.std.proofs.lemmas.List.Elements.{All-push}
 pub use Rattle.std.proofs.lemmas.List.FromFn.{length-map-range_with_len, map-range_with_len_more}
 pub use Rattle.std.proofs.lemmas.Result.{err_from_is_err_and}
 pub use Rattle.std.specs.List.{range_with_len}
-pub use Rattle.gc_file.proofs.NumberLemmas.{number_bytes-number_at, number_at-lt, number_at-append}
+pub use Rattle.gc_file.proofs.NumberLemmas.{number_bytes-u32_at, u32_at-lt, u32_at-append}
 pub use Rattle.gc_file.specs.DecodeBits.{bit_in, IsSpare}
 unfoldable pub use Rattle.gc_file.specs.GarbledFile.{garbled_file}
 pub use Rattle.gc_file.specs.GarbledFile.{GarbledParts, magic, row_bytes, entry_bytes, body, entry_count, IsLabel, IsGarbledFile}
-pub use Rattle.gc_file.specs.Number.{number_bytes, number_at}
+pub use Rattle.gc_file.specs.Number.{number_bytes, u32_at}
 pub use Rattle.gc_file.specs.declared.parts.Version.{Version}
 pub use Rattle.gc_file.specs.declared.parts.Version.TheVariants.{One, Two}
 pub use Rattle.gc_label.proofs.LabelLemmas.{length-bytes_of_label, bytes_of_label-label_of_bytes}
 pub use Rattle.gc_label.specs.Label.{bytes_of_label}
-unfoldable pub use Rattle.gc_file.specs.Body.{version_of}
+unfoldable pub use Rattle.gc_file.specs.Body.{version_of_bytes}
 pub use Rattle.gc_file.specs.Body.{row_size, decode_size, entry_size, IsFilled, IsCutUp, IsBody, IsHashed, IsGiven}
-pub use Rattle.gc_file.specs.FileFault.{row_count, output_count, IsHeaderInOrder, IsBegun, label_count, decode_end, entries_end, trailer_end, IsTrailerRight, HasHeader, HasSpareBit, HasDecodeBits, LastingFault, bad_magic, too_many_rows, too_many_outputs, spare_bits, bad_trailer, trailing, IsInOrder, lasting, truncated, bad_label_magic, too_many_labels, labels_trailing, header_truncated, labels_truncated}
+pub use Rattle.gc_file.specs.FileFault.{row_count, output_count, IsHeaderInOrder, MatchesMagic, label_count, decode_end, entries_end, trailer_end, IsTrailerRight, HasHeader, HasSpareBit, HasDecodeBits, LastingFault, bad_magic, too_many_rows, too_many_outputs, spare_bits, bad_trailer, trailing, IsInOrder, lasting, truncated, bad_label_magic, too_many_labels, labels_trailing, header_truncated, labels_truncated}
 pub use Rattle.gc_file.specs.Reading.{before_trailer, IsLabelForm, Fed, IsFed}
 pub use Rattle.gc_file.specs.Taking.{IsAnswer, IsTaken, IsAnswerOfAll, IsTaking}
 pub use Rattle.gc_file.specs.declared.fault.FileFault.{FileFault}

@@ -1,5 +1,5 @@
 -- A piece that comes after the header of a garbled file.
-use Rattle.gc_file.proofs.ReaderNames.{◌≡◌, ℕ, ◌-◌, ◌<◌, List, [], ◌++◌, length, take, refl, sym, append_assoc, append-nil, length-append, subst, Option, IfSome, Bor, rules, arith, LongSha256, sha256, SpareBits, BadTrailer, Trailing, Version, One, Two, magic, output_count, LastingFault, IsHeaderInOrder, IsSpare, version_of, row_size, decode_size, entry_size, IsHashed, IsGiven, IsBody, IsCutUp}
+use Rattle.gc_file.proofs.ReaderNames.{◌≡◌, ℕ, ◌-◌, ◌<◌, List, [], ◌++◌, length, take, refl, sym, append_assoc, append-nil, length-append, subst, Option, IfSome, Bor, rules, arith, LongSha256, sha256, SpareBits, BadTrailer, Trailing, Version, One, Two, magic, output_count, LastingFault, IsHeaderInOrder, IsSpare, version_of_bytes, row_size, decode_size, entry_size, IsHashed, IsGiven, IsBody, IsCutUp}
 use Rattle.gc_file.specs.Reading.{before_trailer}
 use Rattle.std.proofs.lemmas.List.{get_or-take, take_at}
 use Rattle.gc_lanes.specs.Hasher.{HoldsMessage}
@@ -7,11 +7,11 @@ use Rattle.gc_file.proofs.PieceLemmas.{empty_list, takes_rows, takes_decode, tak
 use Rattle.gc_file.proofs.PlaceLemmas.{begins, spare_fault, bad_trailer_fault, more_fault}
 
 -- The eighth byte of a magic gives its version.
-pub version_of-begun : (v : Version) (bytes : List ℕ) → take 8 bytes ≡ magic v
-    → version_of bytes ≡ v
-unfolding version_of
-version_of-begun One bytes is = rw (← get_or-take 8 bytes 7 0 (omega arith), is) refl
-version_of-begun Two bytes is = rw (← get_or-take 8 bytes 7 0 (omega arith), is) refl
+pub version_of_bytes-begun : (v : Version) (bytes : List ℕ) → take 8 bytes ≡ magic v
+    → version_of_bytes bytes ≡ v
+unfolding version_of_bytes
+version_of_bytes-begun One bytes is = rw (← get_or-take 8 bytes 7 0 (omega arith), is) refl
+version_of_bytes-begun Two bytes is = rw (← get_or-take 8 bytes 7 0 (omega arith), is) refl
 
 -- A header that is in order, with nothing behind it.
 pub body_new : (v : Version) (header : List ℕ) (hasher : LongSha256) → length header ≡ 48
@@ -19,7 +19,8 @@ pub body_new : (v : Version) (header : List ℕ) (hasher : LongSha256) → lengt
     → HoldsMessage hasher header → IsBody header [] [] [] [] hasher
 body_new v header hasher whole in_order holds = record {
   whole = whole;
-  in_order = rw (version_of-begun v header (begins v header (omega arith) in_order.begun)) in_order;
+  in_order = rw (version_of_bytes-begun v header (begins v header (omega arith) in_order.begun))
+      in_order;
   filled = search (rules, arith);
   no_spare_bit = λ full spare. let part = spare.not_full in absurd (omega arith);
   hashed = record { holds = λ short. simp append-nil holds; right = λ full. absurd (omega arith) };

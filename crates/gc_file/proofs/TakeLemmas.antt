@@ -6,7 +6,7 @@ use Rattle.std.specs.Io.KnownBytes.{Consumes}
 use Rattle.gc_netlist.specs.declared.limits.TheConstants.{MAX_GATES, MAX_WIRES}
 use Rattle.gc_file.specs.declared.take.TakeFault.{TakeFault}
 use Rattle.gc_file.specs.declared.take.TakeFault.TheVariants.{File, ReadFault}
-use Rattle.gc_file.specs.Counted.{counted}
+use Rattle.gc_file.specs.Counted.{saturated_count}
 use Rattle.gc_file.proofs.HeaderLemmas.{lasts}
 
 -- More bytes than any file has.
@@ -45,7 +45,7 @@ pub taking_more : (reader after : Fed) (piece : List ℕ) (answer : Result (Unit
     {a b d : Option (List ℕ)} {got more : ℕ}
     → IsTaking reader a b got → IsFed reader piece answer after
     → ((e : FileFault) → answer ≡ Err e → ⊥) → Consumes b d piece
-    → more ≡ counted (got + length piece) → IsTaking after a d more
+    → more ≡ saturated_count (got + length piece) → IsTaking after a d more
 taking_more (Err e) after piece answer taking fed not_err consumed count = let is = taking.fed in cc
 taking_more (Ok bytes) after piece (Err e) taking fed not_err consumed count =
     absurd (not_err e refl)

@@ -1,6 +1,6 @@
 -- Files on their way to a sink.
 use Rattle.gc_file.proofs.WriterNames.{◌≡◌, refl, ℕ, ◌+◌, ◌<◌, List, ◌++◌, length, take, drop, length-append, length-take, length-drop, append_assoc, Option, Result, Ok, Err, ◌∙◌, arith, Appends-trans, take-append-drop, err_from_is_err_and, Appends, IsErrAnd, FileWriter, WriteFault, IsStopped, IsAfter, Proceeds}
-use Rattle.gc_file.specs.Counted.{counted}
+use Rattle.gc_file.specs.Counted.{saturated_count}
 
 -- A sink that stopped in a file stopped in each longer one.
 pub IsStopped-more : {before now : Option (List ℕ)} {file : List ℕ} {sent : ℕ} (more : List ℕ)
@@ -16,7 +16,8 @@ IsStopped-more more s = record {
 
 -- The sink took only the first bytes of a piece.
 pub IsAfter-stopped : {taken now : Option (List ℕ)} (sent : ℕ) (piece : List ℕ) (more total : ℕ)
-    → Appends taken now (take more piece) → more < length piece → total ≡ counted (sent + more)
+    → Appends taken now (take more piece) → more < length piece
+    → total ≡ saturated_count (sent + more)
     → IsAfter sent taken now piece (Err (record { sent = total }))
 IsAfter-stopped {taken} {now} sent piece more total appended below is = record {
   goes = λ before file written count. record {

@@ -11,8 +11,8 @@ use Rattle.gc_file.specs.GarbledFile.{entry_count}
 use Rattle.gc_file.specs.FileFault.{row_count, output_count, IsHeaderInOrder}
 
 -- The version that the eighth byte gives; 50 is the digit 2.
-unfoldable pub version_of : List ℕ → Version
-version_of bytes = if slice_index bytes 7 == 50 then Two else One
+unfoldable pub version_of_bytes : List ℕ → Version
+version_of_bytes bytes = if slice_index bytes 7 == 50 then Two else One
 
 -- The numbers of bytes of rows, of decode bits and of entries that follow a header.
 abbrev pub row_size : List ℕ → ℕ
@@ -22,7 +22,7 @@ abbrev pub decode_size : List ℕ → ℕ
 decode_size header = bytes_for (output_count header)
 
 abbrev pub entry_size : List ℕ → ℕ
-entry_size header = 32 * entry_count (version_of header) (output_count header)
+entry_size header = 32 * entry_count (version_of_bytes header) (output_count header)
 
 -- The four parts after a header have no more bytes than these, and none before the parts that come before it are whole.
 pub record IsFilled (row_size decode_size entry_size : ℕ)
@@ -48,7 +48,7 @@ IsGiven digest message trailer left =
 -- The parts are in order as far as they go.
 pub record IsBody (header rows decode entries trailer : List ℕ) (hasher : LongSha256) : Type 0 where
   pub whole : length header ≡ 48
-  pub in_order : IsHeaderInOrder (version_of header) header
+  pub in_order : IsHeaderInOrder (version_of_bytes header) header
   pub filled : IsFilled (row_size header) (decode_size header) (entry_size header)
       rows decode entries trailer
   pub no_spare_bit : length decode ≡ decode_size header → IsSpare (output_count header) decode → ⊥

@@ -6,5 +6,5 @@ abbrev pub CountsFailure : {T E : Type 0} → Result T E → ℕ → ℕ → Typ
 CountsFailure result old new = MatchResult result (λ _. new ≡ old) (λ _. new ≡ old + 1)
 
 -- A number of bytes as it is reported: it stops at the last number of 64 bits.
-abbrev pub counted : ℕ → ℕ
-counted n = min n (2 ^ 64 - 1)
+abbrev pub saturated_count : ℕ → ℕ
+saturated_count n = min n (2 ^ 64 - 1)

@@ -5,21 +5,21 @@ use Rattle.gc_netlist.specs.declared.limits.TheConstants.{MAX_GATES, MAX_WIRES}
 use Rattle.gc_file.specs.declared.fault.FileFault.{FileFault}
 use Rattle.gc_file.specs.declared.fault.FileFault.TheVariants.{BadMagic, Truncated, Trailing, CountTooLarge, SpareBits, BadTrailer}
 use Rattle.gc_file.specs.declared.parts.Version.{Version}
-use Rattle.gc_file.specs.Number.{number_at}
+use Rattle.gc_file.specs.Number.{u32_at}
 use Rattle.gc_file.specs.DecodeBits.{bytes_for}
 use Rattle.gc_file.specs.GarbledFile.{magic, entry_count}
 use Rattle.gc_file.specs.LabelFile.{label_magic}
 
 -- The bytes begin with this magic, or are a beginning of it.
-abbrev pub IsBegun : List ℕ → List ℕ → Type 0
-IsBegun magic bytes = take 8 bytes ≡ take (length bytes) magic
+abbrev pub MatchesMagic : List ℕ → List ℕ → Type 0
+MatchesMagic magic bytes = take 8 bytes ≡ take (length bytes) magic
 
 -- The counts of a garbled file,
 abbrev pub row_count : List ℕ → ℕ
-row_count bytes = number_at 40 bytes
+row_count bytes = u32_at 40 bytes
 
 abbrev pub output_count : List ℕ → ℕ
-output_count bytes = number_at 44 bytes
+output_count bytes = u32_at 44 bytes
 
 -- and the places where its decode bits, its entries and its trailer end.
 abbrev pub decode_end : List ℕ → ℕ
@@ -62,7 +62,7 @@ IsTrailerRight version bytes =
 -- The bytes are in order up to some place, and this is the fault there. It stays, whatever bytes follow.
 pub data LastingFault (bytes : List ℕ) : FileFault → Type 0 where
   -- The first bytes are those of no magic.
-  bad_magic : ((version : Version) → IsBegun (magic version) bytes → ⊥)
+  bad_magic : ((version : Version) → MatchesMagic (magic version) bytes → ⊥)
       → LastingFault bytes BadMagic
   -- A count is above its limit.
   too_many_rows : (version : Version) → take 8 bytes ≡ magic version → 44 ≤ length bytes
@@ -86,7 +86,7 @@ pub data LastingFault (bytes : List ℕ) : FileFault → Type 0 where
 
 -- A beginning of a header is in order as far as it goes.
 pub record IsHeaderInOrder (version : Version) (bytes : List ℕ) : Type 0 where
-  pub begun : IsBegun (magic version) bytes
+  pub begun : MatchesMagic (magic version) bytes
   pub few_rows : 44 ≤ length bytes → row_count bytes ≤ MAX_GATES
   pub few_outputs : 48 ≤ length bytes → output_count bytes ≤ MAX_WIRES
 
@@ -102,15 +102,15 @@ IsSound bytes = (version : Version) × IsInOrder version bytes
 
 -- The first fault of bytes that are no garbled file: a fault that stays or, where the bytes are in order as far as they
 -- go, that they end before the trailer does.
-pub data FirstFault (bytes : List ℕ) : FileFault → Type 0 where
-  lasting : (e : FileFault) → LastingFault bytes e → FirstFault bytes e
+pub data FirstGarbledFault (bytes : List ℕ) : FileFault → Type 0 where
+  lasting : (e : FileFault) → LastingFault bytes e → FirstGarbledFault bytes e
   truncated : (version : Version) → IsInOrder version bytes
       → length bytes < trailer_end version bytes
-      → FirstFault bytes Truncated
+      → FirstGarbledFault bytes Truncated
 
 -- The number of labels of a label file, and the place where it ends.
 abbrev pub label_count : List ℕ → ℕ
-label_count bytes = number_at 12 bytes
+label_count bytes = u32_at 12 bytes
 
 abbrev pub labels_end : List ℕ → ℕ
 labels_end bytes = 16 + 16 * label_count bytes
@@ -118,11 +118,15 @@ labels_end bytes = 16 + 16 * label_count bytes
 -- The first fault of bytes that are no label file, in the order of the bytes. Each but the last stays, whatever bytes
 -- follow.
 pub data FirstLabelFault (bytes : List ℕ) : FileFault → Type 0 where
-  bad_label_magic : (IsBegun label_magic bytes → ⊥) → FirstLabelFault bytes BadMagic
-  too_many_labels : IsBegun label_magic bytes → 16 ≤ length bytes → MAX_WIRES < label_count bytes
+  bad_label_magic : (MatchesMagic label_magic bytes → ⊥) → FirstLabelFault bytes BadMagic
+  too_many_labels : MatchesMagic label_magic bytes → 16 ≤ length bytes
+      → MAX_WIRES < label_count bytes
       → FirstLabelFault bytes CountTooLarge
-  labels_trailing : IsBegun label_magic bytes → 16 ≤ length bytes → label_count bytes ≤ MAX_WIRES
+  labels_trailing : MatchesMagic label_magic bytes → 16 ≤ length bytes
+      → label_count bytes ≤ MAX_WIRES
       → labels_end bytes < length bytes → FirstLabelFault bytes Trailing
-  header_truncated : IsBegun label_magic bytes → length bytes < 16 → FirstLabelFault bytes Truncated
-  labels_truncated : IsBegun label_magic bytes → 16 ≤ length bytes → label_count bytes ≤ MAX_WIRES
+  header_truncated : MatchesMagic label_magic bytes → length bytes < 16
+      → FirstLabelFault bytes Truncated
+  labels_truncated : MatchesMagic label_magic bytes → 16 ≤ length bytes
+      → label_count bytes ≤ MAX_WIRES
       → length bytes < labels_end bytes → FirstLabelFault bytes Truncated

@@ -4,7 +4,7 @@ use Rattle.gc_file.specs.declared.fault.FileFault.{FileFault}
 use Rattle.gc_file.specs.declared.fault.FileFault.TheVariants.{Truncated}
 use Rattle.gc_file.specs.GarbledFile.{GarbledParts, IsGarbledFile}
 use Rattle.gc_file.specs.LabelFile.{LabelFileParts, IsLabelFile}
-use Rattle.gc_file.specs.FileFault.{LastingFault, FirstFault, FirstLabelFault}
+use Rattle.gc_file.specs.FileFault.{LastingFault, FirstGarbledFault, FirstLabelFault}
 
 -- Each of these is a byte.
 abbrev pub AreBytes : List ℕ → Type 0
@@ -12,10 +12,12 @@ AreBytes bytes = All (λ byte. byte < 256) bytes
 
 -- Bytes are one garbled file or have one first fault, and not both.
 pub record GarbledFileLaw (bytes : List ℕ) : Type 0 where
-  pub either : ((p : GarbledParts) × IsGarbledFile bytes p) ⊎ ((e : FileFault) × FirstFault bytes e)
-  pub not_both : (p : GarbledParts) (e : FileFault) → IsGarbledFile bytes p → FirstFault bytes e → ⊥
+  pub either : ((p : GarbledParts) × IsGarbledFile bytes p)
+      ⊎ ((e : FileFault) × FirstGarbledFault bytes e)
+  pub not_both : (p : GarbledParts) (e : FileFault) → IsGarbledFile bytes p
+      → FirstGarbledFault bytes e → ⊥
   pub one_file : (p q : GarbledParts) → IsGarbledFile bytes p → IsGarbledFile bytes q → p ≡ q
-  pub one_fault : (e f : FileFault) → FirstFault bytes e → FirstFault bytes f → e ≡ f
+  pub one_fault : (e f : FileFault) → FirstGarbledFault bytes e → FirstGarbledFault bytes f → e ≡ f
   -- A lasting fault is that of all longer bytes.
   pub lasts : (e : FileFault) (more : List ℕ) → LastingFault bytes e
       → LastingFault (bytes ++ more) e

@@ -9,5 +9,5 @@ module _ {P : Type 0} (labels : P → ℕ × ℕ) where
   bytes_by pair = bytes_of_label (labels pair).0 ++ bytes_of_label (labels pair).1
 
   -- Each of the two is the number of 16 bytes.
-  abbrev pub AreLabels : P → Type 0
-  AreLabels pair = IsLabel (labels pair).0 × IsLabel (labels pair).1
+  abbrev pub IsLabelPair : P → Type 0
+  IsLabelPair pair = IsLabel (labels pair).0 × IsLabel (labels pair).1

@@ -2,7 +2,7 @@
 use Rattle.std.specs.Prelude.{ℕ, ◌-◌, min, List, Option, Some, None}
 
 -- What it holds: the bytes taken, the limit of their number if there is one, and the number of failures.
-pub record Held : Type 0 where
+pub record MemSinkState : Type 0 where
   pub bytes : List ℕ
   pub limit : Option ℕ
   pub failures : ℕ

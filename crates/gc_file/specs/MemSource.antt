@@ -3,7 +3,7 @@ use Rattle.std.specs.Prelude.{ℕ, ◌-◌, min, List, Option, Some, None}
 
 -- What it has: the bytes that are left, how many of them it gives before it fails if there is a limit, and the number
 -- of failures.
-pub record Left : Type 0 where
+pub record MemSourceState : Type 0 where
   pub left : List ℕ
   pub limit : Option ℕ
   pub failures : ℕ

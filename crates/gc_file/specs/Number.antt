@@ -7,5 +7,5 @@ unfoldable pub number_bytes : ℕ → List ℕ
 number_bytes n = little_bytes 4 n
 
 -- The number in the four bytes from a place on.
-unfoldable pub number_at : ℕ → List ℕ → ℕ
-number_at place bytes = little_number 4 (drop place bytes)
+unfoldable pub u32_at : ℕ → List ℕ → ℕ
+u32_at place bytes = little_number 4 (drop place bytes)

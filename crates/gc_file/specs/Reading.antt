@@ -5,12 +5,12 @@ use Rattle.gc_file.specs.declared.fault.FileFault.{FileFault}
 use Rattle.gc_file.specs.declared.fault.FileFault.TheVariants.{Memory}
 use Rattle.gc_file.specs.GarbledFile.{GarbledParts, IsGarbledFile}
 use Rattle.gc_file.specs.LabelFile.{LabelFileParts, label_magic, IsLabelFile}
-use Rattle.gc_file.specs.FileFault.{LastingFault, FirstFault, IsSound, IsBegun, label_count, labels_end, FirstLabelFault}
+use Rattle.gc_file.specs.FileFault.{LastingFault, FirstGarbledFault, IsSound, MatchesMagic, label_count, labels_end, FirstLabelFault}
 
 -- The bytes are read: the parts of the file that they are, or else their first fault. Memory may be missing instead.
 abbrev pub IsRead : List ℕ → Result GarbledParts FileFault → Type 0
 IsRead bytes (Ok parts) = IsGarbledFile bytes parts
-IsRead bytes (Err e) = e ≢ Memory → FirstFault bytes e
+IsRead bytes (Err e) = e ≢ Memory → FirstGarbledFault bytes e
 
 -- The bytes before a trailer: all but the last 32.
 abbrev pub before_trailer : List ℕ → List ℕ
@@ -23,7 +23,7 @@ IsLabelsRead bytes (Err e) = e ≢ Memory → FirstLabelFault bytes e
 
 -- The bytes have the form of a label file, or else they have this first fault.
 pub record IsLabelForm (bytes : List ℕ) : Type 0 where
-  pub begun : IsBegun label_magic bytes
+  pub begun : MatchesMagic label_magic bytes
   pub header : 16 ≤ length bytes
   pub few_labels : label_count bytes ≤ MAX_WIRES
   pub whole : length bytes ≡ labels_end bytes

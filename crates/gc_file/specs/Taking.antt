@@ -8,18 +8,18 @@ use Rattle.gc_file.specs.declared.take.TakeFault.{TakeFault}
 use Rattle.gc_file.specs.declared.take.TakeFault.TheVariants.{File, ReadFault}
 use Rattle.gc_file.specs.Fault as faults
 use Rattle.gc_file.specs.GarbledFile.{GarbledParts, IsGarbledFile}
-use Rattle.gc_file.specs.FileFault.{IsSound, LastingFault, FirstFault}
+use Rattle.gc_file.specs.FileFault.{IsSound, LastingFault, FirstGarbledFault}
 use Rattle.gc_file.specs.Reading.{Fed}
-use Rattle.gc_file.specs.Counted.{counted}
+use Rattle.gc_file.specs.Counted.{saturated_count}
 
 abbrev pub code_of : TakeFault → ℕ
 code_of (File fault) = faults.code_of fault
 code_of (ReadFault got) = 38
 
 -- the name and, of a source that failed, how many bytes it had given
-abbrev pub text_of : TakeFault → List ℕ
-text_of (File fault) = fault_name (faults.code_of fault)
-text_of (ReadFault got) = codes "ReadFault after " ++ decimal got ++ codes " bytes"
+abbrev pub fault_text : TakeFault → List ℕ
+fault_text (File fault) = fault_name (faults.code_of fault)
+fault_text (ReadFault got) = codes "ReadFault after " ++ decimal got ++ codes " bytes"
 
 -- What is returned of the bytes that a source gave, with the bytes that it has left. A fault of the file is one that no
 -- further bytes can mend, or none are left; a source that failed gave `got` bytes, which are in order as far as they
@@ -27,8 +27,8 @@ text_of (ReadFault got) = codes "ReadFault after " ++ decimal got ++ codes " byt
 abbrev pub IsAnswer : List ℕ → Option (List ℕ) → Result GarbledParts TakeFault → Type 0
 IsAnswer given left (Ok parts) = IsGarbledFile given parts × IsAtEnd left
 IsAnswer given left (Err (File fault)) = fault ≢ Memory
-    → LastingFault given fault ⊎ (FirstFault given fault × IsAtEnd left)
-IsAnswer given left (Err (ReadFault got)) = IsSound given × (got ≡ counted (length given))
+    → LastingFault given fault ⊎ (FirstGarbledFault given fault × IsAtEnd left)
+IsAnswer given left (Err (ReadFault got)) = IsSound given × (got ≡ saturated_count (length given))
 
 -- A garbled file is taken from a source: which bytes the source gave, and what is returned of them.
 pub record IsTaken (old new : Option (List ℕ))
@@ -41,7 +41,7 @@ pub record IsTaken (old new : Option (List ℕ))
 -- unless the source failed.
 abbrev pub IsAnswerOfAll : List ℕ → Result GarbledParts TakeFault → Type 0
 IsAnswerOfAll bytes (Ok parts) = IsGarbledFile bytes parts
-IsAnswerOfAll bytes (Err (File fault)) = fault ≢ Memory → FirstFault bytes fault
+IsAnswerOfAll bytes (Err (File fault)) = fault ≢ Memory → FirstGarbledFault bytes fault
 IsAnswerOfAll bytes (Err (ReadFault got)) = Unit {0}
 
 -- The source failed once more where that is returned, and otherwise not.
@@ -56,4 +56,4 @@ pub record IsTaking (reader : Fed) (old now : Option (List ℕ)) (got : ℕ) : T
   pub fed : reader ≡ Ok given
   pub consumed : Consumes old now given
   pub sound : IsSound given
-  pub count : got ≡ counted (length given)
+  pub count : got ≡ saturated_count (length given)

@@ -1,7 +1,7 @@
 -- A file on its way to a sink.
 use Rattle.std.specs.Prelude.{◌≡◌, ℕ, ◌<◌, List, ◌++◌, length, Option, Result, MatchResult, ⊤}
 use Rattle.std.specs.Io.KnownBytes.{Appends}
-use Rattle.gc_file.specs.Counted.{counted}
+use Rattle.gc_file.specs.Counted.{saturated_count}
 use Rattle.gc_file.specs.declared.writer.FileWriter.{FileWriter}
 use Rattle.gc_file.specs.declared.writer.WriteFault.{WriteFault}
 
@@ -14,7 +14,7 @@ pub record IsUnderWay {O : Type 0} (Saw : O → List ℕ → Type 0) (writer : F
   pub whole : beginning ++ writer.held.items ≡ file
   pub seen : Saw writer.observer beginning
   pub taken : Appends before now beginning
-  pub count : writer.sent ≡ counted (length beginning)
+  pub count : writer.sent ≡ saturated_count (length beginning)
 
 -- The sink failed before the end of the file: it took a beginning of this many bytes, and no others.
 pub record IsStopped (before now : Option (List ℕ)) (file : List ℕ) (sent : ℕ) : Type 0 where
@@ -23,7 +23,7 @@ pub record IsStopped (before now : Option (List ℕ)) (file : List ℕ) (sent : 
   pub whole : beginning ++ rest ≡ file
   pub not_all : 0 < length rest
   pub taken : Appends before now beginning
-  pub count : sent ≡ counted (length beginning)
+  pub count : sent ≡ saturated_count (length beginning)
 
 -- These bytes were written after whatever file was under way, or the sink stopped before their end.
 pub record Proceeds {O : Type 0} (Saw : O → List ℕ → Type 0) (old new : FileWriter O)
@@ -39,15 +39,15 @@ pub record Ends {O : Type 0} (Saw : O → List ℕ → Type 0) (writer : FileWri
     (result : Result ℕ WriteFault) (last : List ℕ → List ℕ) : Type 0 where
   pub goes : (before : Option (List ℕ)) (file : List ℕ) → IsUnderWay Saw writer taken before file →
       let whole = file ++ last file in
-      MatchResult result (λ n. Appends before now whole × (n ≡ counted (length whole)))
+      MatchResult result (λ n. Appends before now whole × (n ≡ saturated_count (length whole)))
       (λ fault. IsStopped before now whole fault.sent)
 
 -- A piece was sent after whatever file the sink took this many bytes of: it took all of the piece, or stopped in it.
 pub record IsAfter (sent : ℕ) (taken now : Option (List ℕ)) (piece : List ℕ)
     (result : Result ℕ WriteFault) : Type 0 where
   pub goes : (before : Option (List ℕ)) (file : List ℕ) → Appends before taken file
-      → sent ≡ counted (length file) → let whole = file ++ piece in
-      MatchResult result (λ n. Appends before now whole × (n ≡ counted (length whole)))
+      → sent ≡ saturated_count (length file) → let whole = file ++ piece in
+      MatchResult result (λ n. Appends before now whole × (n ≡ saturated_count (length whole)))
       (λ fault. IsStopped before now whole fault.sent)
 
 -- An observer that ignores the bytes may have seen any.

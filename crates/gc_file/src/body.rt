@@ -11,7 +11,7 @@ ghost use Rattle.gc_file.specs.Reading.{IsRead, before_trailer};
 
 use crate::fault::FileFault;
 use crate::garbled::Garbled;
-use crate::header::{Counts, DIGEST};
+use crate::header::{DIGEST, HeaderCounts};
 use crate::pairs::Pairs;
 use crate::parts::EntryPair;
 use crate::piece::{append, cut, make_room};
@@ -123,7 +123,7 @@ fn cut_up(piece: &[u8], lacking: Lacking) -> Cuts<'_>
 fn add_decode_bytes<A: Allocator>(
     decode_bytes: &mut Vec<u8, A>,
     bytes: &[u8],
-    counts: Counts,
+    counts: HeaderCounts,
 ) -> Result<(), FileFault>
     requires { counts.decode_bytes ≡ bytes_for counts.outputs }
     ensures ok { OnOk result (decode_bytes.new.items ≡ decode_bytes.old.items ++ bytes.now) }
@@ -272,7 +272,7 @@ impl<A: Allocator + Copy> Body<A> {
             mut trailer,
             mut hasher,
         } = self;
-        let counts = Counts::of(header.as_slice());
+        let counts = HeaderCounts::of(header.as_slice());
         let lacking = Lacking {
             rows: PAIR * counts.rows - rows.len(),
             decode_bytes: counts.decode_bytes - decode_bytes.len(),
@@ -313,7 +313,7 @@ impl<A: Allocator + Copy> Body<A> {
             return Err(FileFault::Truncated);
         }
         let header = header.as_slice();
-        let counts = Counts::of(header);
+        let counts = HeaderCounts::of(header);
         let digest = digest_in(header);
         let decode_bytes = decode_bytes.as_slice();
         let decode_bits = unpacked(alloc, decode_bytes, counts.outputs)?;

@@ -6,11 +6,11 @@ ghost use Rattle.gc_file.specs.DecodeBits.{bytes_for};
 ghost use Rattle.gc_file.specs.GarbledFile as files;
 ghost use Rattle.gc_file.specs.GarbledFile.{entry_count};
 ghost use Rattle.gc_file.specs.declared.parts.Version.{Version};
-ghost use Rattle.gc_file.specs.Body.{version_of};
-ghost use Rattle.gc_file.specs.FileFault.{IsBegun, row_count, output_count, IsHeaderInOrder, LastingFault};
+ghost use Rattle.gc_file.specs.Body.{version_of_bytes};
+ghost use Rattle.gc_file.specs.FileFault.{MatchesMagic, row_count, output_count, IsHeaderInOrder, LastingFault};
 
 use crate::fault::FileFault;
-use crate::number::number_at;
+use crate::number::u32_at;
 use crate::parts::Version;
 use crate::piece::cut;
 use crate::sizes::HEADER;
@@ -30,7 +30,7 @@ const VERSION: usize = 7;
 
 /// Whether the bytes begin with the magic, or are a beginning of it.
 pub(crate) fn is_begun(bytes: &[u8], magic: [u8; 8]) -> bool
-    ensures { IsTrue result ↔ IsBegun magic bytes.now }
+    ensures { IsTrue result ↔ MatchesMagic magic bytes.now }
 {
     let (first, _) = cut(bytes, magic.len());
     first == &magic[..first.len()]
@@ -40,16 +40,16 @@ pub(crate) fn is_begun(bytes: &[u8], magic: [u8; 8]) -> bool
 pub(crate) fn count_fits(bytes: &[u8], place: usize, limit: u32) -> bool
     requires { place < 64 }
     ensures { MatchBool result
-        (place + 4 ≤ length bytes.now → numbers.number_at place bytes.now ≤ limit)
-        ((place + 4 ≤ length bytes.now) × (limit < numbers.number_at place bytes.now)) }
+        (place + 4 ≤ length bytes.now → numbers.u32_at place bytes.now ≤ limit)
+        ((place + 4 ≤ length bytes.now) × (limit < numbers.u32_at place bytes.now)) }
 {
-    bytes.len() < place + 4 || number_at(place, bytes) <= limit
+    bytes.len() < place + 4 || u32_at(place, bytes) <= limit
 }
 
 /// The version whose magic the bytes begin with, or are a beginning of.
 fn begun_version(header: &[u8]) -> Option<Version>
-    ensures { MatchOption result ((v : Version) → IsBegun (files.magic v) header.now → ⊥)
-        (λ v. IsBegun (files.magic v) header.now) }
+    ensures { MatchOption result ((v : Version) → MatchesMagic (files.magic v) header.now → ⊥)
+        (λ v. MatchesMagic (files.magic v) header.now) }
 {
     if is_begun(header, Version::One.magic()) {
         Some(Version::One)
@@ -80,7 +80,7 @@ pub(crate) fn check_header(header: &[u8]) -> Result<(), FileFault>
 
 /// What a whole header says of the bytes that follow.
 #[derive(Clone, Copy)]
-pub(crate) struct Counts {
+pub(crate) struct HeaderCounts {
     /// The version of the file.
     pub(crate) version: Version,
     /// How many row pairs there are.
@@ -93,27 +93,27 @@ pub(crate) struct Counts {
     pub(crate) entries: usize,
 }
 
-impl Counts {
+impl HeaderCounts {
     /// The counts of a header.
-    #[tactic(auto, unfolding(crate::specs::Body::version_of))]
-    pub(crate) fn of(header: &[u8]) -> Counts
+    #[tactic(auto, unfolding(crate::specs::Body::version_of_bytes))]
+    pub(crate) fn of(header: &[u8]) -> HeaderCounts
         requires { length header.now ≡ HEADER }
-        ensures version { result.version ≡ version_of header.now }
+        ensures version { result.version ≡ version_of_bytes header.now }
         ensures rows { result.rows ≡ row_count header.now }
         ensures outputs { result.outputs ≡ output_count header.now }
         ensures decode_bytes { result.decode_bytes ≡ bytes_for (output_count header.now) }
         ensures entries { result.entries
-            ≡ entry_count (version_of header.now) (output_count header.now) }
+            ≡ entry_count (version_of_bytes header.now) (output_count header.now) }
     {
         let version = if header[VERSION] == b'2' {
             Version::Two
         } else {
             Version::One
         };
-        let outputs = number_at(OUTPUTS, header);
-        Counts {
+        let outputs = u32_at(OUTPUTS, header);
+        HeaderCounts {
             version,
-            rows: number_at(ROWS, header) as usize,
+            rows: u32_at(ROWS, header) as usize,
             outputs: outputs as usize,
             decode_bytes: outputs.div_ceil(8) as usize,
             entries: version.entry_count(outputs) as usize,

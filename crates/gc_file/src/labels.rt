@@ -7,7 +7,7 @@ ghost use Rattle.gc_file.specs.Reading.{IsLabelsRead, IsLabelsChecked};
 
 use crate::fault::FileFault;
 use crate::header::is_begun;
-use crate::number::number_at;
+use crate::number::u32_at;
 use crate::pairs::label_from_bytes;
 use crate::sizes::{LABEL, LABEL_HEADER};
 use gc_label::Label;
@@ -77,7 +77,7 @@ fn check_labels(bytes: &[u8]) -> Result<(), FileFault>
     if bytes.len() < LABEL_HEADER {
         return Err(FileFault::Truncated);
     }
-    let count = number_at(COUNT, bytes);
+    let count = u32_at(COUNT, bytes);
     if count > MAX_WIRES {
         return Err(FileFault::CountTooLarge);
     }
@@ -100,7 +100,7 @@ pub fn read_labels<A: Allocator>(alloc: A, bytes: &[u8]) -> Result<LabelFile<A>,
     check_labels(bytes)?;
     let labels = labels_from_bytes(alloc, &bytes[LABEL_HEADER..])?;
     Ok(LabelFile {
-        index: number_at(INDEX, bytes),
+        index: u32_at(INDEX, bytes),
         labels,
     })
 }

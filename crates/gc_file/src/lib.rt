@@ -37,7 +37,7 @@ pub use fault::FileFault;
 pub use garbled::Garbled;
 pub use labels::{LabelFile, labels_from_bytes, read_labels};
 pub use laws::{law_garbled_file, law_label_file};
-pub use number::{number_at, number_bytes};
+pub use number::{number_bytes, u32_at};
 pub use pairs::read_rows;
 pub use parts::{EntryPair, Version};
 pub use reader::{GarbledReader, before_trailer, read_garbled, read_garbled_by_digest};

@@ -6,10 +6,10 @@ ghost use Rattle.gc_file.specs.Number as numbers;
 use byteorder::{ByteOrder, LittleEndian};
 
 /// The number in the four bytes from a place on, the lowest first. The caller ensures that there are four.
-#[tactic(auto, unfolding(crate::specs::Number::number_at))]
-pub fn number_at(place: usize, bytes: &[u8]) -> u32
+#[tactic(auto, unfolding(crate::specs::Number::u32_at))]
+pub fn u32_at(place: usize, bytes: &[u8]) -> u32
     requires { place + 4 ≤ length bytes.now }
-    ensures { result ≡ numbers.number_at place bytes.now }
+    ensures { result ≡ numbers.u32_at place bytes.now }
 {
     LittleEndian::read_u32(&bytes[place..])
 }

@@ -3,7 +3,7 @@
 ghost use Rattle.std.specs.Prelude.{◌≡◌, ◌+◌, ◌*◌, ◌%◌, ◌<◌, ◌^◌, ℕ, List, [], ◌++◌, length, flat_map, All, OnOk, IfErr};
 ghost use Rattle.gc_label.specs.Label.{bytes_of_label};
 ghost use Rattle.gc_file.specs.GarbledFile.{IsLabel, IsRowPair, row_bytes};
-ghost use Rattle.gc_file.specs.LabelBytes.{bytes_by, AreLabels};
+ghost use Rattle.gc_file.specs.LabelBytes.{bytes_by, IsLabelPair};
 
 use crate::fault::FileFault;
 use crate::parts::EntryPair;
@@ -62,7 +62,7 @@ pub(crate) fn label_from_bytes(bytes: &[u8]) -> Label
 fn pair_from_bytes<P: LabelPair>(bytes: &[u8]) -> P
     requires { length bytes.now ≡ 32 }
     ensures bytes { bytes_by P.labels result ≡ bytes.now }
-    ensures labels { AreLabels P.labels result }
+    ensures labels { IsLabelPair P.labels result }
 {
     let (first, second) = bytes.split_at(16);
     P::from_labels(label_from_bytes(first), label_from_bytes(second))
@@ -86,10 +86,10 @@ fn push_pairs<P: LabelPair, A: Allocator>(
     bytes: &[u8],
 ) -> Result<(), FileFault>
     requires whole { length bytes.now % 32 ≡ 0 }
-    requires labels { All (AreLabels P.labels) pairs.old.items }
+    requires labels { All (IsLabelPair P.labels) pairs.old.items }
     ensures bytes { OnOk result (flat_map (bytes_by P.labels) pairs.new.items
         ≡ flat_map (bytes_by P.labels) pairs.old.items ++ bytes.now) }
-    ensures labels { All (AreLabels P.labels) pairs.new.items }
+    ensures labels { All (IsLabelPair P.labels) pairs.new.items }
     ensures memory { IfErr result (λ e. e ≡ FileFault.Memory) }
 {
     for i in 0..bytes.len() / PAIR {
@@ -108,14 +108,14 @@ pub(crate) struct Pairs<P: LabelPair, A: Allocator> {
 
 impl<P: LabelPair, A: Allocator> Model for Pairs<P, A> {
     ghost use Rattle.std.specs.Prelude.{◌<◌, ◌++◌, ℕ, List, flat_map, length, All};
-    ghost use Rattle.gc_file.specs.LabelBytes.{bytes_by, AreLabels};
+    ghost use Rattle.gc_file.specs.LabelBytes.{bytes_by, IsLabelPair};
 
     ghost Value = { List ℕ };
 
     ghost view = { λ p. flat_map (bytes_by P.labels) p.pairs.items ++ p.partial.items };
 
     ghost invariant = { λ p. (length p.partial.items < 32)
-        × All (AreLabels P.labels) p.pairs.items };
+        × All (IsLabelPair P.labels) p.pairs.items };
 }
 
 impl<P: LabelPair, A: Allocator> Pairs<P, A> {
@@ -160,7 +160,7 @@ impl<P: LabelPair, A: Allocator> Pairs<P, A> {
     pub(crate) fn into_pairs(self) -> Vec<P, A>
         requires { length self % 32 ≡ 0 }
         ensures bytes { flat_map (bytes_by P.labels) result.items ≡ self }
-        ensures labels { All (AreLabels P.labels) result.items }
+        ensures labels { All (IsLabelPair P.labels) result.items }
     {
         self.pairs
     }

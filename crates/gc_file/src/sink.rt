@@ -55,9 +55,9 @@ pub struct MemSink<A: Allocator = Global> {
 }
 
 impl<A: Allocator> Model for MemSink<A> {
-    ghost use Rattle.gc_file.specs.MemSink.{Held};
+    ghost use Rattle.gc_file.specs.MemSink.{MemSinkState};
 
-    ghost Value = { Held };
+    ghost Value = { MemSinkState };
 
     ghost view = { λ s. record { bytes = s.bytes.items; limit = s.limit; failures = s.failures } };
 }

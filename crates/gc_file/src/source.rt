@@ -54,9 +54,9 @@ pub struct MemSource<'b> {
 }
 
 impl<'b> Model for MemSource<'b> {
-    ghost use Rattle.gc_file.specs.MemSource.{Left};
+    ghost use Rattle.gc_file.specs.MemSource.{MemSourceState};
 
-    ghost Value = { Left };
+    ghost Value = { MemSourceState };
 
     ghost view = { λ s. record { left = s.left.now; limit = s.limit; failures = s.failures } };
 }

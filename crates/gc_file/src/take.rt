@@ -2,7 +2,7 @@
 
 ghost use Rattle.std.specs.Prelude.{◌≡◌, ℕ, List, Some};
 ghost use Rattle.gc_netlist.specs.Names.{fault_name};
-ghost use Rattle.gc_file.specs.Taking.{code_of, text_of, IsTaken, IsAnswerOfAll, CountsReadFault};
+ghost use Rattle.gc_file.specs.Taking.{code_of, fault_text, IsTaken, IsAnswerOfAll, CountsReadFault};
 
 use crate::fault::FileFault;
 use crate::garbled::Garbled;
@@ -48,7 +48,7 @@ impl TakeFault {
 impl fmt::Display for TakeFault {
     ghost use Rattle.std.specs.Prelude.{Some};
 
-    ghost output = { λ fault. Some (text_of fault) };
+    ghost output = { λ fault. Some (fault_text fault) };
 
     fn fmt<W: fmt::Write>(&self, f: &mut fmt::Formatter<W>) -> fmt::Result {
         match self {

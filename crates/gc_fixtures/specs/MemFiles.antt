@@ -22,5 +22,5 @@ pub record HeldFiles : Type 0 where
   pub limits : Limits
   pub failures : FailedFiles
 
-abbrev pub bytes_of : HeldFiles → List ℕ → Option (List ℕ)
-bytes_of f name = written_or f.written name (bytes_at f.files name)
+abbrev pub held_bytes : HeldFiles → List ℕ → Option (List ℕ)
+held_bytes f name = written_or f.written name (bytes_at f.files name)

@@ -7,7 +7,7 @@ use std::alloc::Global;
 
 /// What a call returned.
 #[derive(Clone, Copy, PartialEq, Eq, Debug)]
-pub enum Answer {
+pub enum Returned {
     /// What it returns with ample memory.
     Plain,
     /// Its Memory fault.
@@ -17,11 +17,11 @@ pub enum Answer {
 }
 
 /// What a call returned that has this Memory fault.
-pub fn answer_of<T: Drop, E: PartialEq + Copy>(found: Result<T, E>, memory: E) -> Answer {
+pub fn answer_of<T: Drop, E: PartialEq + Copy>(found: Result<T, E>, memory: E) -> Returned {
     match found.err() {
-        None => Answer::Plain,
-        Some(fault) if fault == memory => Answer::Memory,
-        Some(_) => Answer::Other,
+        None => Returned::Plain,
+        Some(fault) if fault == memory => Returned::Memory,
+        Some(_) => Returned::Other,
     }
 }
 
@@ -29,10 +29,10 @@ pub fn answer_of<T: Drop, E: PartialEq + Copy>(found: Result<T, E>, memory: E) -
 #[derive(Clone, Copy, PartialEq, Eq, Debug)]
 pub enum Stray {
     /// The run with this allocation refused, which should return the Memory fault.
-    Refused(u64, Answer),
+    Refused(u64, Returned),
     /// A run with ample memory, after one with this allocation refused or instead of it, which should give the plain
     /// result.
-    Ample(u64, Answer),
+    Ample(u64, Returned),
     /// Each run met a refusal.
     Endless,
 }
@@ -40,7 +40,7 @@ pub enum Stray {
 /// Makes the call with allocation 1, 2, 3, .. refused, until a run meets no refusal. Each run that meets one returns
 /// its Memory fault, and each other one, also over memory that refused an allocation before, the plain result. Returns
 /// how many runs met a refusal.
-pub fn runs_refused<F: Fn(&Refusing<Global>) -> Answer>(
+pub fn runs_refused<F: Fn(&Refusing<Global>) -> Returned>(
     alloc: Global,
     call: F,
 ) -> Result<u64, Stray>
@@ -51,15 +51,15 @@ pub fn runs_refused<F: Fn(&Refusing<Global>) -> Answer>(
         let answer = call(&heap);
         let again = if heap.refused() == 0 {
             answer
-        } else if answer == Answer::Memory {
+        } else if answer == Returned::Memory {
             call(&heap)
         } else {
             return Err(Stray::Refused(n, answer));
         };
-        if again != Answer::Plain {
+        if again != Returned::Plain {
             return Err(Stray::Ample(n, again));
         }
-        if answer == Answer::Plain {
+        if answer == Returned::Plain {
             return Ok(n - 1);
         }
     }
@@ -79,8 +79,8 @@ pub struct Met {
 
 impl Met {
     /// Counts a run that returned this.
-    fn count(&mut self, answer: Answer) {
-        if answer == Answer::Plain {
+    fn count(&mut self, answer: Returned) {
+        if answer == Returned::Plain {
             self.plain = self.plain.saturating_add(1);
             if self.before_fault == self.runs {
                 self.before_fault = self.before_fault.saturating_add(1);
@@ -92,7 +92,7 @@ impl Met {
 
 /// Makes the call with allocation 1, 2, 3, .. refused, until a run meets no refusal. Each run that meets one returns
 /// its Memory fault or the plain result, and the last one the plain result.
-pub fn refusals_met<F: Fn(&Refusing<Global>) -> Answer>(
+pub fn refusals_met<F: Fn(&Refusing<Global>) -> Returned>(
     alloc: Global,
     call: F,
 ) -> Result<Met, Stray>
@@ -107,9 +107,9 @@ pub fn refusals_met<F: Fn(&Refusing<Global>) -> Answer>(
         let heap = Refusing::nth(alloc, n);
         let answer = call(&heap);
         match (answer, heap.refused()) {
-            (Answer::Plain, 0) => return Ok(met),
+            (Returned::Plain, 0) => return Ok(met),
             (_, 0) => return Err(Stray::Ample(n, answer)),
-            (Answer::Other, _) => return Err(Stray::Refused(n, answer)),
+            (Returned::Other, _) => return Err(Stray::Refused(n, answer)),
             _ => met.count(answer),
         }
     }

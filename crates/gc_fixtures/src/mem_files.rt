@@ -2,7 +2,7 @@
 
 ghost use Rattle.std.specs.Prelude.{◌≡◌, ℕ, List, [], Option, Some, None, false, IfOk, option_map};
 ghost use Rattle.gc_disk.specs.Files.{CountsRead};
-ghost use Rattle.gc_fixtures.specs.MemFiles.{bytes_at, bytes_of, written_or};
+ghost use Rattle.gc_fixtures.specs.MemFiles.{bytes_at, held_bytes, written_or};
 
 use gc_disk::{Cause, FileError, FileFailures, FileLog, Files, Reread};
 use gc_file::{MemSink, MemSource};
@@ -119,7 +119,7 @@ impl<'a, B: Allocator> MemFiles<'a, B> {
 
     /// The bytes of the file of this name. It is one call, which fails where there is no such file.
     fn take_bytes(&mut self, name: &str) -> Result<&'a [u8], FileError>
-        ensures bytes { IfOk result (λ bytes. bytes_of self.old name.now ≡ Some bytes.now) }
+        ensures bytes { IfOk result (λ bytes. held_bytes self.old name.now ≡ Some bytes.now) }
         ensures files { self.new.files ≡ self.old.files }
         ensures written { self.new.written ≡ self.old.written }
         ensures counted { CountsRead result name.now self.old.failures self.new.failures }
@@ -153,7 +153,7 @@ impl<'a, B: Allocator + Copy> Files for MemFiles<'a, B> {
 
     type Source = MemSource<'a>;
 
-    ghost bytes = { λ f name. bytes_of f name };
+    ghost bytes = { λ f name. held_bytes f name };
 
     ghost failures = { λ f. f.failures };
 

@@ -17,7 +17,7 @@ use Rattle.gc_rounds.specs.declared.view.Position.TheVariants.{Inside}
 use Rattle.gc_gates.specs.Pairs.{is_pair, pairs, is_look, looked}
 use Rattle.gc_gates.specs.Layout.{Layout}
 use Rattle.gc_gates.specs.Layout.{one_round}
-use Rattle.gc_gates.specs.Gates.{state_of, in_hand, Fits, Sound, no_view}
+use Rattle.gc_gates.specs.Gates.{state_of, in_hand, IsSoundView, Sound, no_view}
 use Rattle.gc_gates.specs.Steps.{joined}
 use Rattle.gc_gates.specs.Board.{Dealt, first_seat, dealt_seat, note_of, AtRest}
 use Rattle.gc_gates.specs.BoardLaw.{one_round_law}
@@ -29,7 +29,7 @@ module _ {J : Type 0} (gates : J → ℕ) (right : J → ℕ → ℕ → ℕ →
   module _ (lay : Layout) (job : J) where
     -- a view that says nothing of the words
     pub blank : (words : List ℕ) (v : View (GateView J)) → v.inner.hand ≡ Empty → v.inner.made ≡ []
-        → v.inner.known ≡ [] → v.inner.looks ≡ [] → Fits lay gates right job words v
+        → v.inner.known ≡ [] → v.inner.looks ≡ [] → IsSoundView lay gates right job words v
     blank words v hand made known looks = record {
       holding = rw hand tt;
       inside = λ r g phase e. absurd (cc);
@@ -45,7 +45,7 @@ module _ {J : Type 0} (gates : J → ℕ) (right : J → ℕ → ℕ → ℕ →
         ≡ in_hand r g v.inner.hand)
         → ((r g : ℕ) → pairs r g left.inner.made + pairs r g other.inner.made
         ≡ pairs r g v.inner.made)
-        → Fits lay gates right job words left → Fits lay gates right job words other
+        → IsSoundView lay gates right job words left → IsSoundView lay gates right job words other
         → Sound lay gates right job words (set views id left ++ other ∷ [])
     splits words views id v left other o at hand made l q =
         let totals = λ (m : View (GateView J) → ℕ). total-dealt m views id v left other at in

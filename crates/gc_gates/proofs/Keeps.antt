@@ -147,7 +147,8 @@ module _ (lay : Layout) where
     -- a seat's facts last
     fits_lasts : (before now : List ℕ) (u : SeatView J) → Up before now
         → ((k h phase : ℕ) → u.inner.hand ≡ Has k h phase → SameHalves before now k h)
-        → board.Fits lay gates right job before u → board.Fits lay gates right job now u
+        → board.IsSoundView lay gates right job before u
+        → board.IsSoundView lay gates right job now u
     fits_lasts before now u up halves f = record {
       holding = hand_moves before now u.inner.hand halves f.holding;
       inside = f.inside;
@@ -186,8 +187,8 @@ module _ (lay : Layout) where
         × ((pairs k h w.inner.made ≡ pairs k h v.inner.made)
         ⊎ (state_of now k h < stamp (k + 1) FREE)))
         → ((j : ℕ) (u : SeatView J) → j ≢ id → get_elem? views j ≡ some u
-        → board.Fits lay gates right job now u)
-        → board.Fits lay gates right job now w
+        → board.IsSoundView lay gates right job now u)
+        → board.IsSoundView lay gates right job now w
         → board.Sound lay gates right job now (set views id w)
     turned before now views id v w o at_id long le cells counts others mine =
         let totals = λ (m : SeatView J → ℕ). total-set m views id v w at_id in

@@ -9,12 +9,12 @@ use Rattle.gc_workers.specs.Counts.{total, only}
 use Rattle.gc_workers.specs.declared.states.TheConstants.{DONE, IN_HAND}
 use Rattle.gc_rounds.specs.Words.{round_of, bank_of, stamp}
 use Rattle.gc_rounds.specs.Steps.{recorded, one_less, newcomer, merged, nobody, starting}
-use Rattle.gc_rounds.specs.Laws.{Opens, Moves, Deals, Joins}
+use Rattle.gc_rounds.specs.Laws.{Opens, Moves, DealsSeat, Joins}
 use Rattle.gc_rounds.specs.declared.view.View.{View}
 use Rattle.gc_workers.proofs.Sums.{total-append, total-set, only_other}
 use Rattle.gc_gates.specs.Pairs.{is_pair, pairs, is_look, looked}
 use Rattle.gc_gates.specs.Layout.{two_banks}
-use Rattle.gc_gates.specs.Gates.{state_of, low_of, high_of, in_hand, IsHandRight, Fits, Sound, first_view, fresh_view, no_view}
+use Rattle.gc_gates.specs.Gates.{state_of, low_of, high_of, in_hand, IsHandRight, IsSoundView, Sound, first_view, fresh_view, no_view}
 use Rattle.gc_gates.specs.Steps.{joined}
 use Rattle.gc_gates.specs.Frame.{FrameLaw}
 use Rattle.gc_rounds.specs.Banks.{BanksSound}
@@ -54,7 +54,7 @@ module _ {J : Type 0} (gates : J → ℕ) (right : J → ℕ → ℕ → ℕ →
 
   no_job : (job : J) (words : List ℕ) (v : View (GateView J)) → v.inner.hand ≡ Empty
       → v.inner.known ≡ [] → v.inner.looks ≡ [] → v.inner.made ≡ []
-      → Fits two_banks gates right job words v
+      → IsSoundView two_banks gates right job words v
   no_job job words v hand known looks made = record {
     holding = subst (IsHandRight two_banks gates right job words) (sym hand) tt;
     inside = λ r g phase e. absurd (has_not r g phase (sym e ∙ hand));
@@ -85,8 +85,8 @@ module _ {J : Type 0} (gates : J → ℕ) (right : J → ℕ → ℕ → ℕ →
       }
     where
       one : (id : ℕ) (v : View (GateView J)) → get_elem? (starting jobs seats
-          (first_view job) ∷ []) id ≡ some v → Fits two_banks gates right job words v
-      one zero v e = subst (Fits two_banks gates right job words) (some-injective _ _ e)
+          (first_view job) ∷ []) id ≡ some v → IsSoundView two_banks gates right job words v
+      one zero v e = subst (IsSoundView two_banks gates right job words) (some-injective _ _ e)
           (no_job job words
           (starting jobs seats (first_view job)) refl refl refl refl)
       one (suc id) v e = absurd (some-ne-none v (sym e))
@@ -104,8 +104,8 @@ module _ {J : Type 0} (gates : J → ℕ) (right : J → ℕ → ℕ → ℕ →
       → state_of two_banks now r g ≡ state_of two_banks words r g = λ r g.
       get_or-set_other words b (two_banks.at r g) n 0
       (λ e. omega arith) in
-      let lasts : (u : View (GateView J)) → Fits two_banks gates right job words u
-      → Fits two_banks gates right job now u = λ u f. record {
+      let lasts : (u : View (GateView J)) → IsSoundView two_banks gates right job words u
+      → IsSoundView two_banks gates right job now u = λ u f. record {
         holding = hand_moves job words now u.inner.hand (λ r g _ _. (
           word_stays r g 1,
           word_stays r g 2,
@@ -144,7 +144,7 @@ module _ {J : Type 0} (gates : J → ℕ) (right : J → ℕ → ℕ → ℕ →
           ap (only (stamp r DONE)) (state_stays r g),
         );
         fits = λ j u e. ⊎_elim
-            (λ t. subst (Fits two_banks gates right job now) t.1
+            (λ t. subst (IsSoundView two_banks gates right job now) t.1
             (let f = o.fits id v at_id in record {
               holding = hand_moves job words now v.inner.hand (λ r g _ _. (
                 word_stays r g 1,
@@ -164,7 +164,7 @@ module _ {J : Type 0} (gates : J → ℕ) (right : J → ℕ → ℕ → ℕ →
             (at_set views id j w u e);
       }
 
-  pub deals : Deals (Sound two_banks gates right) fresh_view
+  pub deals : DealsSeat (Sound two_banks gates right) fresh_view
   deals job words views id v o at_id several =
       let left = one_less v in
       let other = newcomer v (fresh_view v.inner) in
@@ -179,7 +179,7 @@ module _ {J : Type 0} (gates : J → ℕ) (right : J → ℕ → ℕ → ℕ →
         once = λ r g. omega (arith, moved (λ u. pairs r g u.inner.made), o.once r g);
         mades = λ r g l. omega (arith, moved (λ u. pairs r g u.inner.made), o.mades r g l);
         fits = λ j u e. ⊎_elim
-            (λ was. ⊎_elim (λ t. subst (Fits two_banks gates right job words) t.1
+            (λ was. ⊎_elim (λ t. subst (IsSoundView two_banks gates right job words) t.1
             (record {
               holding = f.holding;
               inside = f.inside;
@@ -188,7 +188,7 @@ module _ {J : Type 0} (gates : J → ℕ) (right : J → ℕ → ℕ → ℕ →
               spent = λ z. absurd (omega arith);
             })) (λ t. o.fits j u t.1)
             (at_set views id j left u was))
-            (λ (same : other ≡ u). subst (Fits two_banks gates right job words) same
+            (λ (same : other ≡ u). subst (IsSoundView two_banks gates right job words) same
             (no_job job words other refl refl refl refl))
             (at_snoc (set views id left) other u j e);
       }
@@ -205,7 +205,7 @@ module _ {J : Type 0} (gates : J → ℕ) (right : J → ℕ → ℕ → ℕ →
         total-set h views id v both at_id,
         total-set h (set views id both) other w none_left there,
       ) in
-      let theirs : Fits two_banks gates right job words w = ⊎_elim (λ (t : (other ≡ id)
+      let theirs : IsSoundView two_banks gates right job words w = ⊎_elim (λ (t : (other ≡ id)
       × (both ≡ w)). absurd (apart t.0)) (λ (t : (other ≢ id)
       × (get_elem? views other ≡ some w)). o.fits other w t.1)
       (at_set views id other both w there) in
@@ -233,9 +233,9 @@ module _ {J : Type 0} (gates : J → ℕ) (right : J → ℕ → ℕ → ℕ →
           total-append (is_pair r g) v.inner.made w.inner.made,
         );
         fits = λ j u e. ⊎_elim
-            (λ t. subst (Fits two_banks gates right job words) t.1
+            (λ t. subst (IsSoundView two_banks gates right job words) t.1
             (no_job job words none_left refl refl refl refl))
-            (λ t. ⊎_elim (λ q. subst (Fits two_banks gates right job words) q.1 (record {
+            (λ t. ⊎_elim (λ q. subst (IsSoundView two_banks gates right job words) q.1 (record {
               holding = f.holding;
               inside = f.inside;
               knows = λ r g k. dite (dec_le 1 (pairs r g v.inner.known)) (λ y. f.knows r g y)

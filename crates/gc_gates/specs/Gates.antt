@@ -52,7 +52,7 @@ module _ {J : Type 0} (l : Layout) (gates : J → ℕ) (right : J → ℕ → �
     pub high : state_of l words r g ≡ stamp r DONE → right job r g 1 (high_of l words r g)
 
   -- What a view says of the words is so.
-  pub record Fits (job : J) (words : List ℕ) (v : View (GateView J)) : Type 0 where
+  pub record IsSoundView (job : J) (words : List ℕ) (v : View (GateView J)) : Type 0 where
     pub holding : IsHandRight job words v.inner.hand
     -- A gate in hand is in hand in the round that the seat is inside.
     pub inside : (r g phase : ℕ) → v.inner.hand ≡ Has r g phase → v.position ≡ Inside r
@@ -82,7 +82,8 @@ module _ {J : Type 0} (l : Layout) (gates : J → ℕ) (right : J → ℕ → �
     pub mades : (r g : ℕ) → state_of l words r g < stamp (r + 1) FREE
         → total (λ v. pairs r g v.inner.made) views ≡ only (stamp r DONE) (state_of l words r g)
     -- What each view says is so.
-    pub fits : (id : ℕ) (v : View (GateView J)) → get_elem? views id ≡ some v → Fits job words v
+    pub fits : (id : ℕ) (v : View (GateView J)) → get_elem? views id ≡ some v
+        → IsSoundView job words v
 
 module _ {J : Type 0} where
   -- what the view knows that stands for all seats at the opening

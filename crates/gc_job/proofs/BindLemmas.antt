@@ -1,5 +1,5 @@
 -- Label files in turn, and the places where they are.
-use Rattle.gc_job.proofs.Names.{◌≡◌, ◌≢◌, ℕ, ◌+◌, ◌<◌, ◌≤◌, Bool, true, false, inl, inr, List, [], length, take, set, get_or, slice_get, Option, Some, None, is_some, MatchOption, not, eqb, ltb, refl, sym, ◌∙◌, arith, slice_get_within, slice_get_read, cases_eq, Decides-eqb, LabelFileParts, DoubleValue, HasFile, IsInOrder, AreInOrder, LabelsFault, double_value, IsFileAt, ArePlaces}
+use Rattle.gc_job.proofs.Names.{◌≡◌, ◌≢◌, ℕ, ◌+◌, ◌<◌, ◌≤◌, Bool, true, false, inl, inr, List, [], length, take, set, get_or, slice_get, Option, Some, None, is_some, MatchOption, not, eqb, ltb, refl, sym, ◌∙◌, arith, slice_get_within, slice_get_read, cases_eq, Decides-eqb, LabelFileParts, DoubleValue, HasFile, IsFileInOrder, AreInOrder, LabelsFault, double_value, IsFileFor, ArePlaces}
 use Rattle.std.proofs.lemmas.List.{get_or-set_same, get_or-set_other, length-set}
 use Rattle.std.proofs.lemmas.Slice.Eq.{slice_eq-Decides}
 use lib.Pointwise.{pointwise}
@@ -14,14 +14,14 @@ read_at xs i j x y below at e f = rw (f, ← e)
 
 -- What a marked place says,
 place_taken : (before : List LabelFileParts) (value : ℕ) (o : Option ℕ) → is_some o ≡ true
-    → MatchOption o (HasFile before value → ⊥) (IsFileAt before value) → HasFile before value
+    → MatchOption o (HasFile before value → ⊥) (IsFileFor before value) → HasFile before value
 place_taken before value None is h = absurd (cc)
 place_taken before value (Some place) is h =
     record { place = place; file = h.file; at = h.at; index = h.index }
 
 -- and one that isn't.
 pub place_free : (before : List LabelFileParts) (value : ℕ) (o : Option ℕ) → is_some o ≡ false
-    → MatchOption o (HasFile before value → ⊥) (IsFileAt before value) → HasFile before value → ⊥
+    → MatchOption o (HasFile before value → ⊥) (IsFileFor before value) → HasFile before value → ⊥
 place_free before value None is h = h
 place_free before value (Some place) is h = absurd (cc)
 
@@ -39,7 +39,8 @@ module _ (widths : List ℕ) (before : List LabelFileParts) (file : LabelFilePar
       double_value at (place_taken before file.index _ is (marked file.index inside))
 
   -- and one that is in order.
-  pub in_order_at : is_some (get_or places file.index None) ≡ false → IsInOrder widths before file
+  pub in_order_at : is_some (get_or places file.index None) ≡ false
+      → IsFileInOrder widths before file
   in_order_at is =
       record { width = at; first = place_free before file.index _ is (marked file.index inside) }
 
@@ -51,7 +52,7 @@ places_none places empty value room = rw (empty value room) (λ h. cc (h.at))
 module _ (widths : List ℕ) (files : List LabelFileParts) (i : ℕ) (file : LabelFileParts)
     (at : slice_get files i ≡ Some file) where
   -- One more file is in order.
-  pub in_order_more : AreInOrder widths files i → IsInOrder widths (take i files) file
+  pub in_order_more : AreInOrder widths files i → IsFileInOrder widths (take i files) file
       → AreInOrder widths files (i + 1)
   in_order_more before last k other below at_k = elim (cases_eq k i) [
     | inl same ↦ let is : file ≡ other = cc in rw (same, ← is) last
@@ -71,8 +72,9 @@ module _ (widths : List ℕ) (files : List LabelFileParts) (i : ℕ) (file : Lab
       ]
 
   place_kept : (value : ℕ) (o : Option ℕ) → value ≢ file.index
-      → MatchOption o (HasFile (take i files) value → ⊥) (IsFileAt (take i files) value)
-      → MatchOption o (HasFile (take (i + 1) files) value → ⊥) (IsFileAt (take (i + 1) files) value)
+      → MatchOption o (HasFile (take i files) value → ⊥) (IsFileFor (take i files) value)
+      → MatchOption o (HasFile (take (i + 1) files) value → ⊥)
+      (IsFileFor (take (i + 1) files) value)
   place_kept value None other h = λ has. h (file_before value other has)
   place_kept value (Some place) other h =
       let old = slice_get_taken i place files h.file h.at in

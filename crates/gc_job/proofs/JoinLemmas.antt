@@ -1,5 +1,5 @@
 -- Labels of files joined in the order of their values.
-use Rattle.gc_job.proofs.Names.{◌≡◌, ℕ, zero, suc, ◌+◌, ◌<◌, true, false, List, [], ◌∷◌, ◌++◌, length, map, sum, take, drop, get_or, slice_get, Option, Some, None, is_none, is_some, flat_map, MatchOption, IsSomeAnd, refl, sym, ap, ◌∙◌, arith, list_any, sum-map, sum_by-cons, flat_map-append, length-flat_map, slice_get_within, get_or_from_slice_get, LabelFileParts, MissingValue, HasFile, AreInOrder, FirstLabelsFault, missing_value, AreBound, IsFileAt, ArePlaces, labels_at}
+use Rattle.gc_job.proofs.Names.{◌≡◌, ℕ, zero, suc, ◌+◌, ◌<◌, true, false, List, [], ◌∷◌, ◌++◌, length, map, sum, take, drop, get_or, slice_get, Option, Some, None, is_none, is_some, flat_map, MatchOption, IsSomeAnd, refl, sym, ap, ◌∙◌, arith, list_any, sum-map, sum_by-cons, flat_map-append, length-flat_map, slice_get_within, get_or_from_slice_get, LabelFileParts, MissingValue, HasFile, AreInOrder, FirstLabelsFault, missing_value, AreBound, IsFileFor, ArePlaces, labels_at}
 use Rattle.std.proofs.lemmas.List.{take_at, drop_at, drop-drop, length-map, length-take, get_or-take, take_more, append-nil, same_lists, get_or-map, get_or_default}
 use Rattle.std.proofs.lemmas.List.Folds.{list_any_at, Any-from_list_any}
 use Rattle.gc_job.proofs.TakeLemmas.{slice_get-take}
@@ -77,12 +77,12 @@ module _ (widths : List ℕ) (files : List LabelFileParts)
       (marked : ArePlaces files places) (whole : list_any is_none places ≡ false) where
     -- Each value has a file, at its place.
     has_place : (value : ℕ) → value < length places
-        → (k : ℕ) × (get_or places value None ≡ Some k) × IsFileAt files value k
+        → (k : ℕ) × (get_or places value None ≡ Some k) × IsFileFor files value k
     has_place value room = at (get_or places value None) refl (marked value room)
       where
         at : (o : Option ℕ) → get_or places value None ≡ o
-            → MatchOption o (HasFile files value → ⊥) (IsFileAt files value)
-            → (k : ℕ) × (get_or places value None ≡ Some k) × IsFileAt files value k
+            → MatchOption o (HasFile files value → ⊥) (IsFileFor files value)
+            → (k : ℕ) × (get_or places value None ≡ Some k) × IsFileFor files value k
         at None is h =
             let missing = list_any_at is_none places value None room (ap is_none is) in
             absurd (cc)

@@ -17,11 +17,11 @@ pub use Rattle.gc_half.proofs.CircuitLaw.{active_local}
 pub use Rattle.gc_half.specs.Entry.{output_tweak, label_of_colour, entry_of}
 pub use Rattle.gc_half.specs.Evaluation.{decode, IsEvaluation, AreActive, encode, active_rule, row_at}
 pub use Rattle.gc_half.specs.Hash.{hash}
-pub use Rattle.gc_job.specs.Binding.{HasFile, IsInOrder, AreInOrder, LabelsFault, double_value, HasCounts, no_such_value, wrong_width, of_file, missing_value, FirstBindFault, other_circuit, other_counts, of_labels, IsBound, FirstLabelsFault, AreBound}
+pub use Rattle.gc_job.specs.Binding.{HasFile, IsFileInOrder, AreInOrder, LabelsFault, double_value, HasCounts, no_such_value, wrong_width, of_file, missing_value, FirstBindFault, other_circuit, other_counts, of_labels, IsBound, FirstLabelsFault, AreBound}
 pub use Rattle.gc_job.specs.Evaluate.{IsRecognised, AreRecognised, IsEvaluated, labels_of, entry, IsDecodingOf}
 pub use Rattle.gc_job.specs.Honest.{IsHonest, AreHonestFiles, HonestFilesLaw}
 pub use Rattle.gc_job.specs.Job.{JobParts, IsWhole, job_of}
-pub use Rattle.gc_job.specs.Places.{IsFileAt, ArePlaces, labels_at}
+pub use Rattle.gc_job.specs.Places.{IsFileFor, ArePlaces, labels_at}
 pub use Rattle.gc_job.specs.declared.fault.BindFault.TheVariants.{DoubleValue, MissingValue}
 pub use Rattle.gc_job.specs.declared.fault.EvalFault.{EvalFault}
 pub use Rattle.gc_job.specs.declared.fault.EvalFault.TheVariants.{Memory, BadWorkers, UnknownOutputLabel}

@@ -27,7 +27,7 @@ pub record HasFile (files : List LabelFileParts) (value : ℕ) : Type 0 where
 
 -- A file is in order after others: there is its input value, of as many wires as the file has labels, and none of the
 -- others is for it. The widths are those of the input values.
-pub record IsInOrder (widths : List ℕ) (before : List LabelFileParts) (file : LabelFileParts)
+pub record IsFileInOrder (widths : List ℕ) (before : List LabelFileParts) (file : LabelFileParts)
     : Type 0 where
   pub width : slice_get widths file.index ≡ Some (length file.labels)
   pub first : HasFile before file.index → ⊥
@@ -36,7 +36,7 @@ pub record IsInOrder (widths : List ℕ) (before : List LabelFileParts) (file : 
 abbrev pub AreInOrder : List ℕ → List LabelFileParts → ℕ → Type 0
 AreInOrder widths files n =
     (i : ℕ) (file : LabelFileParts) → i < n → slice_get files i ≡ Some file
-    → IsInOrder widths (take i files) file
+    → IsFileInOrder widths (take i files) file
 
 -- The fault of a file after others.
 pub data LabelsFault (widths : List ℕ) (before : List LabelFileParts) (file : LabelFileParts)

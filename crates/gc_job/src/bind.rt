@@ -4,7 +4,7 @@ ghost use Rattle.std.specs.Prelude.{◌≡◌, ◌≢◌, ◌↔◌, ◌<◌, �
 ghost use Rattle.std.specs.List.{list_any};
 ghost use Rattle.gc_netlist.specs.Circuit.{IsLawful};
 ghost use Rattle.gc_file.specs.LabelFile.{LabelFileParts};
-ghost use Rattle.gc_job.specs.Binding.{HasCounts, AreInOrder, IsInOrder, LabelsFault, FirstLabelsFault, AreBound};
+ghost use Rattle.gc_job.specs.Binding.{HasCounts, AreInOrder, IsFileInOrder, LabelsFault, FirstLabelsFault, AreBound};
 ghost use Rattle.gc_job.specs.Places.{ArePlaces, labels_at};
 
 use crate::fault::BindFault;
@@ -84,7 +84,7 @@ fn value_of<B: Allocator>(
     ensures value { IfOk result (λ value. value ≡ file.now.index) }
     ensures bound { IfOk result (λ value. value < length widths.now) }
     ensures ok { OnOk result ((before : List LabelFileParts) → ArePlaces before places.now
-        → IsInOrder widths.now before file.now) }
+        → IsFileInOrder widths.now before file.now) }
     ensures err { IfErr result (λ fault. (before : List LabelFileParts)
         → ArePlaces before places.now → LabelsFault widths.now before file.now fault) }
 {

@@ -7,7 +7,7 @@ use Rattle.gc_file.specs.declared.parts.Version.{Version}
 use Rattle.gc_file.specs.GarbledFile.{GarbledParts, IsGarbledFile}
 use Rattle.gc_file.specs.LabelFile.{LabelFileParts, IsLabelFile}
 use Rattle.gc_file.specs.declared.fault.FileFault.TheVariants as file
-use Rattle.gc_file.specs.FileFault.{FirstFault, FirstLabelFault}
+use Rattle.gc_file.specs.FileFault.{FirstGarbledFault, FirstLabelFault}
 use Rattle.gc_file.specs.Honest.{honest_parts_with}
 use Rattle.gc_job.specs.declared.fault.EvalFault.TheVariants as eval
 use Rattle.gc_audit.specs.declared.garbled.GarbledAudit.{GarbledAudit}
@@ -35,7 +35,7 @@ pub record IsAuditOf (g : GarblingWith) (bytes : List ℕ) (version : Version)
 
 -- The first fault of bytes that are no garbled file. Memory may be missing instead.
 abbrev pub HasGarbledFileFault : List ℕ → KeptFault → Type 0
-HasGarbledFileFault bytes (File fault) = fault ≢ file.Memory → FirstFault bytes fault
+HasGarbledFileFault bytes (File fault) = fault ≢ file.Memory → FirstGarbledFault bytes fault
 HasGarbledFileFault bytes _ = ⊥
 
 -- The fault of an audit: that of a garbling without files, then that of the bytes.

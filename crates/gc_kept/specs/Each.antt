@@ -4,12 +4,12 @@ use Rattle.gc_netlist.specs.Circuit.{output_wires}
 use Rattle.gc_job.specs.Job.{JobParts}
 use Rattle.gc_kept.specs.declared.fault.KeptFault.{KeptFault}
 use Rattle.gc_kept.specs.declared.fault.KeptFault.TheVariants.{SmallBuffer, Memory}
-use Rattle.gc_kept.specs.Job.{AreEvaluated, HasEvaluationFault}
+use Rattle.gc_kept.specs.Job.{HasOutputBits, HasEvaluationFault}
 use Rattle.gc_kept.specs.Jobs.{outputs_of}
 
 -- Evaluating a job leaves its output bits in a buffer, or what was there.
 abbrev pub IsOutcome : JobParts → (old new : List ℕ) → Result (Unit {0}) KeptFault → Type 0
-IsOutcome job old new (Ok done) = AreEvaluated job old new
+IsOutcome job old new (Ok done) = HasOutputBits job old new
 IsOutcome job old new (Err fault) = HasEvaluationFault job (length old) fault × (new ≡ old)
 
 -- The part of a buffer for the bits of the job at a place: they come after those of the jobs before it.
@@ -29,7 +29,7 @@ pub record AreOutcomes (jobs : List JobParts) (old new : List ℕ)
   pub rest : drop (outputs_of jobs) new ≡ drop (outputs_of jobs) old
 
 -- The fault of a list of jobs: the buffer has too little room. Memory may be missing for the list instead.
-abbrev pub HasListFault : List JobParts → (room : ℕ) → KeptFault → Type 0
-HasListFault jobs room SmallBuffer = room < outputs_of jobs
-HasListFault jobs room Memory = outputs_of jobs ≤ room
-HasListFault jobs room _ = ⊥
+abbrev pub HasOutputsRoomFault : List JobParts → (room : ℕ) → KeptFault → Type 0
+HasOutputsRoomFault jobs room SmallBuffer = room < outputs_of jobs
+HasOutputsRoomFault jobs room Memory = outputs_of jobs ≤ room
+HasOutputsRoomFault jobs room _ = ⊥

@@ -47,13 +47,13 @@ pub record IsGarbledAt (g : GarblingWith) (version : Version) (old new : List �
   pub count : written ≡ length (file_of g version)
 
 -- The fault of writing it: that of a garbling without files, else that of writing a file.
-abbrev pub HasFileFault : GarblingWith → Version → ℕ → KeptFault → Type 0
-HasFileFault g version room fault =
+abbrev pub HasGarbledWriteFault : GarblingWith → Version → ℕ → KeptFault → Type 0
+HasGarbledWriteFault g version room fault =
     HasNoFiles g fault ⊎ (HasFiles g × HasWriteFault (file_of g version) room fault)
 
 -- The buffer begins with the label file of the bits that these bytes are, with an offset and zero labels of the input
 -- wires, and this is its length.
-pub record IsDealtWith (c : Netlist) (offset : ℕ) (zero_label : ℕ → ℕ) (index : ℕ)
+pub record IsLabelFileAt (c : Netlist) (offset : ℕ) (zero_label : ℕ → ℕ) (index : ℕ)
     (bytes old new : List ℕ) (written : ℕ) : Type 0 where
   pub bits : List Bool
   pub bytes_are : bytes ≡ map bit_number bits
@@ -77,7 +77,7 @@ pub data HasDealtFaultWith (c : Netlist) (offset : ℕ) (zero_label : ℕ → �
 -- The same under a seed,
 abbrev pub IsDealtAt : Netlist → List ℕ → ℕ → List ℕ → List ℕ → List ℕ → ℕ → Type 0
 IsDealtAt c seed index bytes old new written =
-    IsDealtWith c (offset_of seed) (input_label_of seed) index bytes old new written
+    IsLabelFileAt c (offset_of seed) (input_label_of seed) index bytes old new written
 
 abbrev pub HasDealtFault : Netlist → List ℕ → ℕ → List ℕ → ℕ → KeptFault → Type 0
 HasDealtFault c seed index bytes room fault =
@@ -86,7 +86,8 @@ HasDealtFault c seed index bytes room fault =
 -- and of a garbling.
 abbrev pub IsDealtFrom : GarblingWith → ℕ → List ℕ → List ℕ → List ℕ → ℕ → Type 0
 IsDealtFrom g index bytes old new written =
-    IsDealtWith g.circuit g.offset (slice_index g.garbling.zero_labels) index bytes old new written
+    IsLabelFileAt g.circuit g.offset (slice_index g.garbling.zero_labels) index bytes old new
+    written
 
 abbrev pub HasDealtFaultFrom : GarblingWith → ℕ → List ℕ → ℕ → KeptFault → Type 0
 HasDealtFaultFrom g index bytes room fault =

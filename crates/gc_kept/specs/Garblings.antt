@@ -35,16 +35,16 @@ HaveNoFiles garblings NoDigest = AreFromZero garblings × (¬ HaveDigests garbli
 HaveNoFiles garblings _ = ⊥
 
 -- The buffer has too little room for all files. Memory may be missing instead.
-abbrev pub HasFilesFault : List ℕ → ℕ → KeptFault → Type 0
-HasFilesFault files room SmallBuffer = room < length files
-HasFilesFault files room Memory = length files ≤ room
-HasFilesFault files room _ = ⊥
+abbrev pub HasFilesRoomFault : List ℕ → ℕ → KeptFault → Type 0
+HasFilesRoomFault files room SmallBuffer = room < length files
+HasFilesRoomFault files room Memory = length files ≤ room
+HasFilesRoomFault files room _ = ⊥
 
 -- The fault of writing them: that of garblings without files, else that of writing these.
 abbrev pub HasAllGarbledFault : List GarblingWith → Version → ℕ → KeptFault → Type 0
 HasAllGarbledFault garblings version room fault = HaveNoFiles garblings fault
     ⊎ (AreFromZero garblings × HaveDigests garblings
-    × HasFilesFault (files_of version garblings) room fault)
+    × HasFilesRoomFault (files_of version garblings) room fault)
 
 -- The bytes of a garbling's file before its trailer.
 abbrev pub body_of : Version → GarblingWith → List ℕ

@@ -6,7 +6,7 @@ use Rattle.gc_file.specs.GarbledFile.{GarbledParts, IsGarbledFile}
 use Rattle.gc_file.specs.LabelFile.{LabelFileParts}
 use Rattle.gc_file.specs.declared.fault.FileFault.{FileFault}
 use Rattle.gc_file.specs.declared.fault.FileFault.TheVariants as file
-use Rattle.gc_file.specs.FileFault.{FirstFault}
+use Rattle.gc_file.specs.FileFault.{FirstGarbledFault}
 use Rattle.gc_job.specs.declared.fault.BindFault.{BindFault}
 use Rattle.gc_job.specs.declared.fault.BindFault.TheVariants as bind
 use Rattle.gc_job.specs.Job.{JobParts}
@@ -30,7 +30,7 @@ pub record IsBoundJob (c : Netlist) (garbled labels lengths : List ℕ) (job : J
 -- The fault of such bytes: the first of the garbled file, then that of the label files, then the first of binding them.
 -- Memory may be missing instead.
 pub data HasKeptJobFault (c : Netlist) (garbled labels lengths : List ℕ) : KeptFault → Type 0 where
-  of_garbled : (fault : FileFault) → (fault ≢ file.Memory → FirstFault garbled fault)
+  of_garbled : (fault : FileFault) → (fault ≢ file.Memory → FirstGarbledFault garbled fault)
       → HasKeptJobFault c garbled labels lengths (File fault)
   of_labels : (parts : GarbledParts) (fault : KeptFault) → IsGarbledFile garbled parts
       → HasJoinedFilesFault labels lengths fault → HasKeptJobFault c garbled labels lengths fault
@@ -41,12 +41,12 @@ pub data HasKeptJobFault (c : Netlist) (garbled labels lengths : List ℕ) : Kep
   want : HasKeptJobFault c garbled labels lengths Memory
 
 -- The fault of binding them to a circuit: it has no digest, else that of the bytes.
-abbrev pub HasBindingFault : CircuitWith → (garbled labels lengths : List ℕ) → KeptFault → Type 0
-HasBindingFault c garbled labels lengths fault = HasNoDigest c fault
+abbrev pub HasBoundJobFault : CircuitWith → (garbled labels lengths : List ℕ) → KeptFault → Type 0
+HasBoundJobFault c garbled labels lengths fault = HasNoDigest c fault
     ⊎ (IsTrue c.has_digest × HasKeptJobFault c.netlist garbled labels lengths fault)
 
 -- The buffer begins with the output bits that an evaluation of the job decodes to.
-pub record AreEvaluated (job : JobParts) (old new : List ℕ) : Type 0 where
+pub record HasOutputBits (job : JobParts) (old new : List ℕ) : Type 0 where
   pub bits : List Bool
   pub evaluated : IsEvaluated job (Ok bits)
   pub buffer : IsFileAt (map bit_number bits) old new

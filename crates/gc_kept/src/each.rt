@@ -3,7 +3,7 @@
 ghost use Rattle.std.specs.Prelude.{◌≡◌, length, map, IfOk, IfErr, IfSome, Ok, OnErr};
 ghost use Rattle.gc_netlist.specs.Circuit.{output_wires};
 ghost use Rattle.gc_job.specs.Evaluate.{IsEvaluated};
-ghost use Rattle.gc_kept.specs.Each.{AreOutcomes, HasListFault, IsOutcome};
+ghost use Rattle.gc_kept.specs.Each.{AreOutcomes, HasOutputsRoomFault, IsOutcome};
 
 use crate::bits::write_bits;
 use crate::fault::KeptFault;
@@ -22,7 +22,8 @@ pub fn evaluate_each(
 ) -> Result<Vec<Result<(), KeptFault>, Global>, KeptFault>
     ensures ok { IfOk result (λ outcomes.
         AreOutcomes (map (λ j. j.now) jobs.now) bits.old bits.new outcomes.items) }
-    ensures fault { IfErr result (HasListFault (map (λ j. j.now) jobs.now) (length bits.old)) }
+    ensures fault { IfErr result (HasOutputsRoomFault (map (λ j. j.now) jobs.now)
+        (length bits.old)) }
     ensures unwritten { OnErr result (bits.new ≡ bits.old) }
 {
     look_for_room(jobs, bits)?;

@@ -3,7 +3,7 @@
 ghost use Rattle.std.specs.Prelude.{◌≡◌, length, IfOk, IfErr, OnErr};
 ghost use Rattle.gc_netlist.specs.Canon.{canonical_text};
 ghost use Rattle.gc_file.specs.Honest.{IsFileSize};
-ghost use Rattle.gc_kept.specs.Files.{IsWholeFileAt, LacksRoom, HasWriteFault, IsGarbledAt, HasFileFault, file_of};
+ghost use Rattle.gc_kept.specs.Files.{IsWholeFileAt, LacksRoom, HasWriteFault, IsGarbledAt, HasGarbledWriteFault, file_of};
 
 use crate::circuit::KeptCircuit;
 use crate::fault::KeptFault;
@@ -60,7 +60,7 @@ impl KeptGarbling {
         buffer: &mut [u8],
     ) -> Result<usize, KeptFault>
         ensures ok { IfOk result (IsGarbledAt self.now version buffer.old buffer.new) }
-        ensures fault { IfErr result (HasFileFault self.now version (length buffer.old)) }
+        ensures fault { IfErr result (HasGarbledWriteFault self.now version (length buffer.old)) }
         ensures unwritten { OnErr result (buffer.new ≡ buffer.old) }
     {
         self.law_garbled();

@@ -2,7 +2,7 @@
 
 ghost use Rattle.std.specs.Prelude.{◌≡◌, ◌<◌, ◌^◌, length, IfOk, IfErr, IsTrue, OnOk, OnErr};
 ghost use Rattle.gc_netlist.specs.Circuit.{output_wires};
-ghost use Rattle.gc_kept.specs.Job.{IsBoundJob, HasBindingFault, AreEvaluated, HasEvaluationFault};
+ghost use Rattle.gc_kept.specs.Job.{IsBoundJob, HasBoundJobFault, HasOutputBits, HasEvaluationFault};
 ghost use Rattle.gc_kept.specs.Labels.{AreJobLabels, HasJobLabelsFault};
 
 use crate::bits::write_bits;
@@ -52,7 +52,7 @@ impl KeptCircuit {
         ensures digest { OnOk result (IsTrue self.now.has_digest) }
         ensures ok { IfOk result (IsBoundJob self.now.netlist
             bytes.entry.garbled.now bytes.entry.labels.now bytes.entry.lengths.now) }
-        ensures fault { IfErr result (HasBindingFault self.now
+        ensures fault { IfErr result (HasBoundJobFault self.now
             bytes.entry.garbled.now bytes.entry.labels.now bytes.entry.lengths.now) }
     {
         let digest = self.digest()?;
@@ -97,7 +97,7 @@ impl KeptJob {
     /// Evaluates the job, as [`gc_job::evaluate`] does, and writes the bits of the output wires to the front of a
     /// buffer. It refuses a buffer without a byte for each output wire (61). After a fault the buffer is as it was.
     pub fn evaluate(&self, alloc: Global, bits: &mut [u8]) -> Result<(), KeptFault>
-        ensures ok { OnOk result (AreEvaluated self.now bits.old bits.new) }
+        ensures ok { OnOk result (HasOutputBits self.now bits.old bits.new) }
         ensures fault { IfErr result (HasEvaluationFault self.now (length bits.old)) }
         ensures unwritten { OnErr result (bits.new ≡ bits.old) }
     {

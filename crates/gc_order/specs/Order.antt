@@ -205,28 +205,28 @@ pub data OrderText : Type 0 where
   audit : (circuit seed garbled : List ℕ) (labels : List (List ℕ)) → OrderText
 
 -- The texts of an order.
-abbrev pub text_of : Order → OrderText
-text_of (Run o) =
+abbrev pub order_text : Order → OrderText
+order_text (Run o) =
     run (string_bytes o.circuit) (string_bytes o.seed) o.workers o.hex
     (map string_bytes o.values.items)
-text_of (Plain o) = plain (string_bytes o.circuit) o.hex (map string_bytes o.values.items)
-text_of (Check circuit) = check (string_bytes circuit)
-text_of (Locate circuit) = locate (string_bytes circuit)
-text_of (Stats circuit) = stats (string_bytes circuit)
-text_of (ByDepth o) = by_depth (string_bytes o.circuit) (string_bytes o.out)
-text_of (Garble o) =
+order_text (Plain o) = plain (string_bytes o.circuit) o.hex (map string_bytes o.values.items)
+order_text (Check circuit) = check (string_bytes circuit)
+order_text (Locate circuit) = locate (string_bytes circuit)
+order_text (Stats circuit) = stats (string_bytes circuit)
+order_text (ByDepth o) = by_depth (string_bytes o.circuit) (string_bytes o.out)
+order_text (Garble o) =
     garble (string_bytes o.circuit) (string_bytes o.seed) (string_bytes o.out) o.version o.workers
-text_of (Deal o) =
+order_text (Deal o) =
     deal (string_bytes o.circuit) (string_bytes o.seed) o.index (string_bytes o.value)
     (string_bytes o.out)
-text_of (Eval o) =
+order_text (Eval o) =
     eval (string_bytes o.circuit) (string_bytes o.garbled) o.workers o.hex
     (map string_bytes o.labels.items)
-text_of (Jobs o) = jobs (string_bytes o.circuit) (string_bytes o.list) o.workers o.hex
-text_of (Labels o) =
+order_text (Jobs o) = jobs (string_bytes o.circuit) (string_bytes o.list) o.workers o.hex
+order_text (Labels o) =
     list_labels (string_bytes o.circuit) (string_bytes o.seed) o.from o.count
     (map string_bytes o.values.items)
-text_of (Audit o) =
+order_text (Audit o) =
     audit (string_bytes o.circuit) (string_bytes o.seed) (string_bytes o.garbled)
     (map string_bytes o.labels.items)
 

@@ -4,7 +4,7 @@ ghost use Rattle.std.specs.Prelude.{◌≡◌, map, IfOk, Some, string_bytes};
 ghost use Rattle.clap.specs.Words.{FailsBy, fault_of, found_of, rows_of};
 ghost use Rattle.gc_order.specs.Order.{IsCommandName, audit_in, by_depth_in, check_in, command_in, deal_in};
 ghost use Rattle.gc_order.specs.Order.{eval_in, explains_in, garble_in, jobs_in, labels_in, locate_in, order_in};
-ghost use Rattle.gc_order.specs.Order.{plain_in, program, run_in, stats_in, text_of};
+ghost use Rattle.gc_order.specs.Order.{plain_in, program, run_in, stats_in, order_text};
 
 use crate::commands::halfgates;
 use crate::words::{is_flagged, number_of, version_of, word_of, words_of};
@@ -184,7 +184,7 @@ pub struct Asked {
 /// for arguments that it refuses, for help or the version, and where memory ran out.
 pub fn order_of(alloc: Global, words: &[String]) -> Result<Order, Error>
     ensures order { IfOk result
-        (λ order. order_in (map string_bytes words.now) ≡ Some (text_of order)) }
+        (λ order. order_in (map string_bytes words.now) ≡ Some (order_text order)) }
     ensures kinds { FailsBy (fault_of program (map string_bytes words.now)) result }
 {
     match asked_of(alloc, words) {
@@ -196,7 +196,7 @@ pub fn order_of(alloc: Global, words: &[String]) -> Result<Order, Error>
 /// The order in the arguments, and whether a fault of it is to be explained. The errors are those of [`order_of`].
 pub fn asked_of(alloc: Global, words: &[String]) -> Result<Asked, Error>
     ensures order { IfOk result
-        (λ asked. order_in (map string_bytes words.now) ≡ Some (text_of asked.order)) }
+        (λ asked. order_in (map string_bytes words.now) ≡ Some (order_text asked.order)) }
     ensures explains { IfOk result
         (λ asked. asked.explains ≡ explains_in (map string_bytes words.now)) }
     ensures kinds { FailsBy (fault_of program (map string_bytes words.now)) result }
@@ -217,7 +217,7 @@ pub fn asked_of(alloc: Global, words: &[String]) -> Result<Asked, Error>
 fn named_order(alloc: Global, name: &str, found: &ArgMatches<'_>) -> Result<Order, AllocError>
     requires { IsCommandName name.now }
     ensures { IfOk result (λ order. command_in name.now (rows_of (found_of found.now))
-        ≡ Some (text_of order)) }
+        ≡ Some (order_text order)) }
 {
     match name {
         "run" => run_order(alloc, found),
@@ -238,7 +238,7 @@ fn named_order(alloc: Global, name: &str, found: &ArgMatches<'_>) -> Result<Orde
 
 /// The order of `run`, from what clap found of its arguments.
 fn run_order(alloc: Global, found: &ArgMatches<'_>) -> Result<Order, AllocError>
-    ensures { IfOk result (λ order. text_of order ≡ run_in (rows_of (found_of found.now))) }
+    ensures { IfOk result (λ order. order_text order ≡ run_in (rows_of (found_of found.now))) }
 {
     Ok(Order::Run(RunOrder {
         circuit: word_of(alloc, found, "circuit")?,
@@ -251,7 +251,7 @@ fn run_order(alloc: Global, found: &ArgMatches<'_>) -> Result<Order, AllocError>
 
 /// The order of `plain`, from what clap found of its arguments.
 fn plain_order(alloc: Global, found: &ArgMatches<'_>) -> Result<Order, AllocError>
-    ensures { IfOk result (λ order. text_of order ≡ plain_in (rows_of (found_of found.now))) }
+    ensures { IfOk result (λ order. order_text order ≡ plain_in (rows_of (found_of found.now))) }
 {
     Ok(Order::Plain(PlainOrder {
         circuit: word_of(alloc, found, "circuit")?,
@@ -262,7 +262,7 @@ fn plain_order(alloc: Global, found: &ArgMatches<'_>) -> Result<Order, AllocErro
 
 /// The order of `check`, from what clap found of its arguments.
 fn check_order(alloc: Global, found: &ArgMatches<'_>) -> Result<Order, AllocError>
-    ensures { IfOk result (λ order. text_of order ≡ check_in (rows_of (found_of found.now))) }
+    ensures { IfOk result (λ order. order_text order ≡ check_in (rows_of (found_of found.now))) }
 {
     Ok(Order::Check {
         circuit: word_of(alloc, found, "circuit")?,
@@ -271,7 +271,7 @@ fn check_order(alloc: Global, found: &ArgMatches<'_>) -> Result<Order, AllocErro
 
 /// The order of `locate`, from what clap found of its arguments.
 fn locate_order(alloc: Global, found: &ArgMatches<'_>) -> Result<Order, AllocError>
-    ensures { IfOk result (λ order. text_of order ≡ locate_in (rows_of (found_of found.now))) }
+    ensures { IfOk result (λ order. order_text order ≡ locate_in (rows_of (found_of found.now))) }
 {
     Ok(Order::Locate {
         circuit: word_of(alloc, found, "circuit")?,
@@ -280,7 +280,7 @@ fn locate_order(alloc: Global, found: &ArgMatches<'_>) -> Result<Order, AllocErr
 
 /// The order of `stats`, from what clap found of its arguments.
 fn stats_order(alloc: Global, found: &ArgMatches<'_>) -> Result<Order, AllocError>
-    ensures { IfOk result (λ order. text_of order ≡ stats_in (rows_of (found_of found.now))) }
+    ensures { IfOk result (λ order. order_text order ≡ stats_in (rows_of (found_of found.now))) }
 {
     Ok(Order::Stats {
         circuit: word_of(alloc, found, "circuit")?,
@@ -289,7 +289,7 @@ fn stats_order(alloc: Global, found: &ArgMatches<'_>) -> Result<Order, AllocErro
 
 /// The order of `order`, from what clap found of its arguments.
 fn by_depth_order(alloc: Global, found: &ArgMatches<'_>) -> Result<Order, AllocError>
-    ensures { IfOk result (λ order. text_of order ≡ by_depth_in (rows_of (found_of found.now))) }
+    ensures { IfOk result (λ order. order_text order ≡ by_depth_in (rows_of (found_of found.now))) }
 {
     Ok(Order::ByDepth(ByDepthOrder {
         circuit: word_of(alloc, found, "circuit")?,
@@ -299,7 +299,7 @@ fn by_depth_order(alloc: Global, found: &ArgMatches<'_>) -> Result<Order, AllocE
 
 /// The order of `garble`, from what clap found of its arguments.
 fn garble_order(alloc: Global, found: &ArgMatches<'_>) -> Result<Order, AllocError>
-    ensures { IfOk result (λ order. text_of order ≡ garble_in (rows_of (found_of found.now))) }
+    ensures { IfOk result (λ order. order_text order ≡ garble_in (rows_of (found_of found.now))) }
 {
     Ok(Order::Garble(GarbleOrder {
         circuit: word_of(alloc, found, "circuit")?,
@@ -312,7 +312,7 @@ fn garble_order(alloc: Global, found: &ArgMatches<'_>) -> Result<Order, AllocErr
 
 /// The order of `deal`, from what clap found of its arguments.
 fn deal_order(alloc: Global, found: &ArgMatches<'_>) -> Result<Order, AllocError>
-    ensures { IfOk result (λ order. text_of order ≡ deal_in (rows_of (found_of found.now))) }
+    ensures { IfOk result (λ order. order_text order ≡ deal_in (rows_of (found_of found.now))) }
 {
     Ok(Order::Deal(DealOrder {
         circuit: word_of(alloc, found, "circuit")?,
@@ -325,7 +325,7 @@ fn deal_order(alloc: Global, found: &ArgMatches<'_>) -> Result<Order, AllocError
 
 /// The order of `eval`, from what clap found of its arguments.
 fn eval_order(alloc: Global, found: &ArgMatches<'_>) -> Result<Order, AllocError>
-    ensures { IfOk result (λ order. text_of order ≡ eval_in (rows_of (found_of found.now))) }
+    ensures { IfOk result (λ order. order_text order ≡ eval_in (rows_of (found_of found.now))) }
 {
     Ok(Order::Eval(EvalOrder {
         circuit: word_of(alloc, found, "circuit")?,
@@ -338,7 +338,7 @@ fn eval_order(alloc: Global, found: &ArgMatches<'_>) -> Result<Order, AllocError
 
 /// The order of `jobs`, from what clap found of its arguments.
 fn jobs_order(alloc: Global, found: &ArgMatches<'_>) -> Result<Order, AllocError>
-    ensures { IfOk result (λ order. text_of order ≡ jobs_in (rows_of (found_of found.now))) }
+    ensures { IfOk result (λ order. order_text order ≡ jobs_in (rows_of (found_of found.now))) }
 {
     Ok(Order::Jobs(JobsOrder {
         circuit: word_of(alloc, found, "circuit")?,
@@ -350,7 +350,7 @@ fn jobs_order(alloc: Global, found: &ArgMatches<'_>) -> Result<Order, AllocError
 
 /// The order of `labels`, from what clap found of its arguments.
 fn labels_order(alloc: Global, found: &ArgMatches<'_>) -> Result<Order, AllocError>
-    ensures { IfOk result (λ order. text_of order ≡ labels_in (rows_of (found_of found.now))) }
+    ensures { IfOk result (λ order. order_text order ≡ labels_in (rows_of (found_of found.now))) }
 {
     Ok(Order::Labels(LabelsOrder {
         circuit: word_of(alloc, found, "circuit")?,
@@ -363,7 +363,7 @@ fn labels_order(alloc: Global, found: &ArgMatches<'_>) -> Result<Order, AllocErr
 
 /// The order of `audit`, from what clap found of its arguments.
 fn audit_order(alloc: Global, found: &ArgMatches<'_>) -> Result<Order, AllocError>
-    ensures { IfOk result (λ order. text_of order ≡ audit_in (rows_of (found_of found.now))) }
+    ensures { IfOk result (λ order. order_text order ≡ audit_in (rows_of (found_of found.now))) }
 {
     Ok(Order::Audit(AuditOrder {
         circuit: word_of(alloc, found, "circuit")?,

@@ -10,7 +10,7 @@ use prog.Atomic.{either}
 use Rattle.atomic_table.specs.Table.{State, Me, step, keeps, stepped, Allows}
 use Rattle.gc_workers.specs.Counts.{total, only}
 use Rattle.gc_rounds.specs.Words.{count_of, mark_of, round_of, bank_of, open_word, shut_word}
-use Rattle.gc_rounds.specs.Views.{counted, gives, given, unfair, seals_in, sealed_in}
+use Rattle.gc_rounds.specs.Views.{counted, gives, times_given, unfair, seals_in, sealed_in}
 use Rattle.gc_rounds.specs.Banks.{StandFits, BanksSound}
 use Rattle.gc_rounds.specs.Steps.{recorded, position_after, entered, left, sealed, IsOwn}
 use Rattle.gc_rounds.specs.Steps as bank_steps
@@ -92,7 +92,8 @@ module _ {I : Type 0} (jobs seats : ℕ) where
       → IsOwn v r (get_or words (bank_of r) 0)
   finds_own words views id r v o at are near whole =
       let all : total (λ (u : View I). u.seats) views ≡ v.seats = omega (arith, o.dealt) in
-      let gifts = sole (λ (u : View I). given (bank_of r) u.steps) (λ u. u.seats) views id v at all
+      let gifts = sole (λ (u : View I). times_given (bank_of r) u.steps) (λ u. u.seats) views id v
+      at all
       (λ j u there none_left. ((o.fits j u there).spent none_left).1 (bank_of r)) in
       let seals = sole (λ (u : View I). sealed_in r u.steps) (λ u. u.seats) views id v at all
       (λ j u there none_left. ((o.fits j u there).spent none_left).2 r) in record {

@@ -5,7 +5,7 @@ use lib.ListN.{get_elem?}
 use Rattle.std.proofs.lemmas.List.{length-replicate}
 use Rattle.atomic_table.proofs.Lists.{set_else}
 use Rattle.gc_rounds.specs.Words.{count_of, mark_of, round_of, bank_of}
-use Rattle.gc_rounds.specs.Views.{counted, gives, given, unfair, seals_in, sealed_in}
+use Rattle.gc_rounds.specs.Views.{counted, gives, times_given, unfair, seals_in, sealed_in}
 use Rattle.gc_rounds.specs.Banks.{BanksSound}
 use Rattle.gc_rounds.specs.Steps.{one_less, newcomer, merged, nobody, starting}
 use Rattle.gc_rounds.specs.Laws.{IsFresh}
@@ -84,7 +84,7 @@ module _ {I : Type 0} (jobs seats : ℕ) where
         banks = λ b l. let d = o.banks b l in record {
           mark = d.mark;
           count = omega (arith, totals (λ u. counted b u.position), d.count);
-          round = omega (arith, totals (λ u. given b u.steps), d.round);
+          round = omega (arith, totals (λ u. times_given b u.steps), d.round);
         };
         sealed = λ r near is. omega (arith, totals (λ u. sealed_in r u.steps), o.sealed r near is);
         early = λ r before. omega (arith, totals (λ u. sealed_in r u.steps), o.early r before);
@@ -119,7 +119,7 @@ module _ {I : Type 0} (jobs seats : ℕ) where
         banks = λ b l. let d = o.banks b l in record {
           mark = d.mark;
           count = omega (arith, totals (λ u. counted b u.position), d.count, ap (counted b) out);
-          round = omega (arith, totals (λ u. given b u.steps), joined (gives b), d.round);
+          round = omega (arith, totals (λ u. times_given b u.steps), joined (gives b), d.round);
         };
         sealed = λ r near is. omega (arith, seals r, joined (seals_in r), o.sealed r near is);
         early = λ r before. omega (arith, seals r, joined (seals_in r), o.early r before);

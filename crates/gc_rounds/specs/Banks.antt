@@ -5,7 +5,7 @@ use lib.ListN.{get_elem?}
 use Rattle.gc_workers.specs.declared.TheConstants.{MAX_WORKERS}
 use Rattle.gc_workers.specs.Counts.{total}
 use Rattle.gc_rounds.specs.Words.{count_of, mark_of, round_of, bank_of}
-use Rattle.gc_rounds.specs.Views.{counted, unfair, given, sealed_in}
+use Rattle.gc_rounds.specs.Views.{counted, unfair, times_given, sealed_in}
 use Rattle.gc_rounds.specs.declared.view.Position.TheVariants.{Inside}
 use Rattle.gc_rounds.specs.declared.view.View.{View}
 
@@ -21,7 +21,7 @@ module _ {I : Type 0} where
     pub fair : total unfair v.steps ≡ 0
     -- A view that stands for no seat is a seat's no more, and gave no bank on and sealed no round.
     pub spent : v.seats ≡ 0
-        → (v.all ≡ 0) × ((b : ℕ) → given b v.steps ≡ 0) × ((r : ℕ) → sealed_in r v.steps ≡ 0)
+        → (v.all ≡ 0) × ((b : ℕ) → times_given b v.steps ≡ 0) × ((r : ℕ) → sealed_in r v.steps ≡ 0)
 
   -- Bank b, between any two atomic steps.
   pub record BankSound (words : List ℕ) (views : List (View I)) (b : ℕ) : Type 0 where
@@ -29,7 +29,7 @@ module _ {I : Type 0} where
     -- Its count is the number of seats that are inside or passing there.
     pub count : total (λ v. counted b v.position) views ≡ count_of (slice_index words b)
     -- Its round is its number, and twice the times that it was given to its next round.
-    pub round : round_of (slice_index words b) ≡ b + 2 * total (λ v. given b v.steps) views
+    pub round : round_of (slice_index words b) ≡ b + 2 * total (λ v. times_given b v.steps) views
 
   -- Both banks, between any two atomic steps.
   pub record BanksSound (jobs seats : ℕ) (words : List ℕ) (views : List (View I)) : Type 0 where

@@ -34,8 +34,8 @@ module _ {T I : Type 0} (holds : T → List ℕ → List (View I) → Type 0) wh
       → holds about (slice_set words b n) (slice_set views id (recorded v position s))
 
   -- A seat is dealt.
-  abbrev pub Deals : (I → I) → Type 0
-  Deals fresh =
+  abbrev pub DealsSeat : (I → I) → Type 0
+  DealsSeat fresh =
       (about : T) (words : List ℕ) (views : List (View I)) (id : ℕ) (v : View I)
       → holds about words views → get_elem? views id ≡ some v → 1 < v.seats
       → holds about words (slice_set views id (one_less v) ++ newcomer v (fresh v.inner) ∷ [])

@@ -35,12 +35,12 @@ unfair (Seal word found) = 0
 unfair (Reopen word found won) = if won then 1 - only MARK (found % ROUND) else 0
 
 -- how many steps of a record gave bank b to its next round
-abbrev pub given : ℕ → List Step → ℕ
-given b steps = total (gives b) steps
+abbrev pub times_given : ℕ → List Step → ℕ
+times_given b steps = total (gives b) steps
 
 -- the round to which the steps of a record took bank b, which begins in round b
 abbrev pub reached : ℕ → List Step → ℕ
-reached b steps = b + 2 * given b steps
+reached b steps = b + 2 * times_given b steps
 
 -- 1 where the step sealed round r, and else 0
 abbrev pub seals_in : ℕ → Step → ℕ

@@ -2,7 +2,7 @@
 
 ghost use Rattle.std.specs.Prelude.{ℕ, List};
 ghost use Rattle.gc_rounds.specs.declared.view.View.{View};
-ghost use Rattle.gc_rounds.specs.Laws.{Opens, Moves, Deals, Joins};
+ghost use Rattle.gc_rounds.specs.Laws.{Opens, Moves, DealsSeat, Joins};
 
 /// What a seat knows besides where it is, and a rule about that and about the words after the banks' two.
 pub trait Inner<T> {
@@ -35,7 +35,7 @@ pub trait KeptInner<T>: Inner<T> {
 
     ghost moves: { Moves Self.holds Self.idle };
 
-    ghost deals: { Deals Self.holds Self.fresh };
+    ghost deals: { DealsSeat Self.holds Self.fresh };
 
     ghost joins: { Joins Self.holds Self.idle Self.both Self.spent };
 }

@@ -6,19 +6,19 @@ use atomic_table::{Join, Play, Split};
 use std::marker::{Brand, PhantomData};
 
 /// The round that an entry asks for. It is in no operand of the step, and decides where the seat is afterwards.
-pub trait Asked {
+pub trait AskedRound {
     ghost use Rattle.std.specs.Prelude.{ℕ};
 
     ghost round: { ℕ };
 }
 
-impl Asked for Brand {
+impl AskedRound for Brand {
     ghost round = { 0 };
 }
 
 pub struct CountIn<Q>(PhantomData<Q>);
 
-impl<I, Q: Asked> Play<u8, View<I>> for CountIn<Q> {
+impl<I, Q: AskedRound> Play<u8, View<I>> for CountIn<Q> {
     ghost use Rattle.gc_rounds.specs.Steps.{entered};
 
     ghost then = { entered Q.round };

@@ -9,7 +9,7 @@ ghost use Rattle.gc_rounds.specs.Steps.{recorded, position_after, IsOwn};
 ghost use Rattle.gc_rounds.specs.Places.{IsPlaceOf, IsSamePlace};
 
 use crate::inner::KeptInner;
-use crate::kinds::{Asked, CountIn, CountOut, GiveOn, MarkSealed};
+use crate::kinds::{AskedRound, CountIn, CountOut, GiveOn, MarkSealed};
 use crate::rule::Rule;
 use crate::view::{Key, View};
 use crate::words::{MARK, MAX_JOBS, stamped};
@@ -22,7 +22,7 @@ pub type Words<T, I> = Shared<u8, View<I>, Key<T>, Rule>;
 pub type Place<I> = Seat<u8, View<I>>;
 
 /// Counts the seat in at the bank of the round, and returns the word that it found there.
-pub(crate) fn count_in<T, I: KeptInner<T>, Q: Asked>(
+pub(crate) fn count_in<T, I: KeptInner<T>, Q: AskedRound>(
     words: &Words<T, I>,
     place: &mut Place<I>,
     round: u32,

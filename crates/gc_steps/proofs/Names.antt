@@ -1,7 +1,7 @@
 -- The names that most proofs of this crate cite, passed on from one place. Declares nothing.
 pub use Rattle.std.proofs.Common.{◌≡◌, ℕ, zero, suc, ◌+◌, ◌⊎◌, inl, ⊎_elim, Bool, List, [], ◌∷◌, ◌++◌, length, slice_get, get_or, Option, Some, None, IfSome, Ok, Err, arith, ◌≢◌, ◌*◌, ◌%◌, ◌<◌, ◌≤◌, refl, ap, ◌∙◌, subst, rules, append_assoc, length-append, sym, inr, MatchOption, take, Vec, map, ◌-◌, All, ◌^◌, min, option_copied}
 pub use Rattle.std.proofs.lemmas.Option.{slice_get-get_or, slice_get_read, slice_get_within}
-pub use Rattle.gc_steps.specs.Views.{AreReadBy, Reads, IsMadeNow, made_after, IsAlone, SetsMade, ReadsMade, FirstLacking, AnswersAlone, sighting, sightings, Seen, Ran, Got, Lacks, Says, Answers, AnswersTwo, AnswersFour, IsReady, Knows, after_taken}
+pub use Rattle.gc_steps.specs.Views.{AreReadBy, Reads, IsMadeNow, made_after, IsAlone, SetsMade, ReadsMade, FirstLacking, AnswersAlone, sighting, sightings, Seen, Ran, Got, Lacks, Says, Answers, AnswersTwo, AnswersFour, IsPrepared, Knows, after_taken}
 pub use Rattle.gc_workers.proofs.Sums.{total-append, only_same, only_other}
 pub use Rattle.gc_workers.specs.Counts.{total, only}
 pub use Rattle.gc_job.proofs.WiringLemmas.{input_not_set, set_within, set_once}

@@ -1,5 +1,5 @@
 -- Calls one after another, inside a round.
-use Rattle.gc_steps.proofs.Names.{◌≡◌, ◌≢◌, ℕ, ◌+◌, ◌*◌, ◌%◌, ◌<◌, ◌≤◌, ◌⊎◌, List, [], ◌∷◌, ◌++◌, refl, ap, ◌∙◌, arith, rules, append_assoc, length-append, sym, slice_get, Some, inl, inr, ⊎_elim, IsLawful, input_wires, first_wire, second_wire, only, total-append, only_same, only_other, Key, is_pair, pairs, IsGatePlace, JobParts, labels_of, input_not_set, made_now, made_after, IsAlone, SetsMade, ReadsMade, FirstLacking, AnswersAlone, sighting, sightings, Seen, Ran, Got, Lacks, Says, Answers, AnswersTwo, AnswersFour, IsReady, IsMadeNow, after_taken, active, set_of}
+use Rattle.gc_steps.proofs.Names.{◌≡◌, ◌≢◌, ℕ, ◌+◌, ◌*◌, ◌%◌, ◌<◌, ◌≤◌, ◌⊎◌, List, [], ◌∷◌, ◌++◌, refl, ap, ◌∙◌, arith, rules, append_assoc, length-append, sym, slice_get, Some, inl, inr, ⊎_elim, IsLawful, input_wires, first_wire, second_wire, only, total-append, only_same, only_other, Key, is_pair, pairs, IsGatePlace, JobParts, labels_of, input_not_set, made_now, made_after, IsAlone, SetsMade, ReadsMade, FirstLacking, AnswersAlone, sighting, sightings, Seen, Ran, Got, Lacks, Says, Answers, AnswersTwo, AnswersFour, IsPrepared, IsMadeNow, after_taken, active, set_of}
 use Rattle.atomic_table.specs.Seated.{TableId}
 use Rattle.atomic_table.specs.declared.shared.Seat.{Seat}
 use Rattle.gc_netlist.specs.declared.gate.Gate.{Gate}
@@ -228,7 +228,7 @@ module _ {J : Type 0} {a b c : Seen J} (lay : Layout) (job : JobParts) (r g h : 
 
 -- what is ready stays ready
 pub ready_later : {J : Type 0} {a b : Seen J} {list : List (ℕ × ℕ)} {m : ℕ} {job : JobParts} {r : ℕ}
-    {ready : Prepared} → Ran a b list m → IsReady job r a ready → IsReady job r b ready
+    {ready : Prepared} → Ran a b list m → IsPrepared job r a ready → IsPrepared job r b ready
 ready_later {r = r} {ready = ready} p is = record {
   labels = is.labels;
   found = omega (arith, p.looks r ready.gate ready.free);

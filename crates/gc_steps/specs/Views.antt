@@ -157,7 +157,7 @@ abbrev pub IsIdle : {J : Type 0} → Seen J → Type 0
 IsIdle v = (v.inner.hand ≡ Empty) × (0 < v.seats)
 
 -- The gate can be made in round r: its active label follows from the labels, and a load found its state word free.
-pub record IsReady {J : Type 0} (job : JobParts) (r : ℕ) (v : Seen J) (ready : Prepared)
+pub record IsPrepared {J : Type 0} (job : JobParts) (r : ℕ) (v : Seen J) (ready : Prepared)
     : Type 0 where
   pub labels : AreReadBy job ready.gate ready.labels
   pub found : 0 < looked r ready.gate ready.free v.inner.looks

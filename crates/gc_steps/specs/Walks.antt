@@ -7,14 +7,14 @@ use Rattle.gc_steps.specs.declared.walk.GateGroup.TheVariants.{One, Two, Four}
 
 -- How many gates a circuit has, how many of them a pass has yet to come to, how many AND gates wait, and whether the
 -- worker learnt of a gate in the pass.
-pub record Progress : Type 0 where
+pub record WalkState : Type 0 where
   pub gates : ℕ
   pub left : ℕ
   pub waiting : ℕ
   pub learnt : Bool
 
 -- a bound on the groups that are left of a pass
-abbrev pub groups_left : Progress → ℕ
+abbrev pub groups_left : WalkState → ℕ
 groups_left walk = 4 * walk.left + walk.waiting
 
 -- The gates of a group are among this number of gates.

@@ -4,7 +4,7 @@ ghost use Rattle.std.specs.Prelude.{◌≡◌, ◌<◌, IfSome};
 ghost use Rattle.gc_rounds.specs.Places.{IsSamePlace};
 ghost use Rattle.gc_gates.specs.Places.{IsPlaceAt};
 ghost use Rattle.gc_job.specs.ActiveLabels.{gates_of, active, set_of};
-ghost use Rattle.gc_steps.specs.Views.{AreReadBy, IsIdle, Answers, AnswersFour, IsReady};
+ghost use Rattle.gc_steps.specs.Views.{AreReadBy, IsIdle, Answers, AnswersFour, IsPrepared};
 
 use crate::answer::Answer;
 use crate::jobs::Jobs;
@@ -61,10 +61,10 @@ impl<'w, 'c, J: Jobs, R: Frame<J>, B: Allocator, A: Allocator, C: Allocator> Rou
         requires exist { (ready.now.b.gate < J.gates self.now.words.now.key.about)
             × (ready.now.c.gate < J.gates self.now.words.now.key.about)
             × (ready.now.d.gate < J.gates self.now.words.now.key.about) }
-        requires a { IsReady self.now.job.now self.now.number place.old.me.0 ready.now.a }
-        requires b { IsReady self.now.job.now self.now.number place.old.me.0 ready.now.b }
-        requires c { IsReady self.now.job.now self.now.number place.old.me.0 ready.now.c }
-        requires d { IsReady self.now.job.now self.now.number place.old.me.0 ready.now.d }
+        requires a { IsPrepared self.now.job.now self.now.number place.old.me.0 ready.now.a }
+        requires b { IsPrepared self.now.job.now self.now.number place.old.me.0 ready.now.b }
+        requires c { IsPrepared self.now.job.now self.now.number place.old.me.0 ready.now.c }
+        requires d { IsPrepared self.now.job.now self.now.number place.old.me.0 ready.now.d }
         ensures same { IsSamePlace place.old place.new }
         ensures answer { Answers R.layout self.now.job.now self.now.number ready.now.a.gate 4
             place.old.me.0 place.new.me.0 result.0 }
@@ -96,10 +96,10 @@ impl<'w, 'c, J: Jobs, R: Frame<J>, B: Allocator, A: Allocator, C: Allocator> Rou
         requires exist { (ready.now.b.gate < J.gates self.now.words.now.key.about)
             × (ready.now.c.gate < J.gates self.now.words.now.key.about)
             × (ready.now.d.gate < J.gates self.now.words.now.key.about) }
-        requires a { IsReady self.now.job.now self.now.number place.old.me.0 ready.now.a }
-        requires b { IsReady self.now.job.now self.now.number place.old.me.0 ready.now.b }
-        requires c { IsReady self.now.job.now self.now.number place.old.me.0 ready.now.c }
-        requires d { IsReady self.now.job.now self.now.number place.old.me.0 ready.now.d }
+        requires a { IsPrepared self.now.job.now self.now.number place.old.me.0 ready.now.a }
+        requires b { IsPrepared self.now.job.now self.now.number place.old.me.0 ready.now.b }
+        requires c { IsPrepared self.now.job.now self.now.number place.old.me.0 ready.now.c }
+        requires d { IsPrepared self.now.job.now self.now.number place.old.me.0 ready.now.d }
         ensures same { IsSamePlace place.old place.new }
         ensures answers { AnswersFour R.layout self.now.job.now self.now.number
             ready.now.a.gate ready.now.b.gate ready.now.c.gate ready.now.d.gate 37

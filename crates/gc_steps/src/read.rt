@@ -6,7 +6,7 @@ ghost use Rattle.gc_gates.specs.Pairs.{pairs};
 ghost use Rattle.gc_gates.specs.Places.{IsPlaceAt, IsPlaceInside};
 ghost use Rattle.gc_job.specs.ActiveLabels.{active, set_of};
 ghost use Rattle.gc_steps.specs.Walks.{made_now};
-ghost use Rattle.gc_steps.specs.Views.{AreReadBy, Reads, Ran, IsIdle, Got, Lacks, Says, IsReady, Knows, IsAlone, SetsMade, ReadsMade, FirstLacking, AnswersAlone};
+ghost use Rattle.gc_steps.specs.Views.{AreReadBy, Reads, Ran, IsIdle, Got, Lacks, Says, IsPrepared, Knows, IsAlone, SetsMade, ReadsMade, FirstLacking, AnswersAlone};
 
 use crate::answer::Answer;
 use crate::jobs::Jobs;
@@ -135,7 +135,7 @@ impl<'w, 'c, J: Jobs, R: Frame<J>, B: Allocator, A: Allocator, C: Allocator> Rou
         ensures same { IsSamePlace place.old place.new }
         ensures ran { Ran place.old.me.0 place.new.me.0 place.old.me.0.inner.made 7 }
         ensures ok { IfOk result (λ ready. (ready.gate ≡ gate)
-            × IsReady self.now.job.now self.now.number place.new.me.0 ready) }
+            × IsPrepared self.now.job.now self.now.number place.new.me.0 ready) }
         ensures err { IfErr result (λ answer. (made_now answer ≡ 0)
             × Says R.layout self.now.job.now self.now.number gate place.old.me.0 place.new.me.0
             answer) }

@@ -10,7 +10,7 @@ ghost use Rattle.gc_gates.specs.Pairs.{pairs, looked};
 ghost use Rattle.gc_gates.specs.Places.{IsPlaceAt};
 ghost use Rattle.gc_gates.specs.Steps.{after_stored, after_done};
 ghost use Rattle.gc_job.specs.ActiveLabels.{active, set_of};
-ghost use Rattle.gc_steps.specs.Views.{IsMadeNow, IsIdle, Answers, IsReady, IsAlone, AnswersAlone, after_taken};
+ghost use Rattle.gc_steps.specs.Views.{IsMadeNow, IsIdle, Answers, IsPrepared, IsAlone, AnswersAlone, after_taken};
 
 use crate::answer::Answer;
 use crate::jobs::Jobs;
@@ -110,7 +110,7 @@ impl<'w, 'c, J: Jobs, R: Frame<J>, B: Allocator, A: Allocator, C: Allocator> Rou
         requires place { IsPlaceAt R.layout J.gates self.now.words.now.table_id
             self.now.words.now.key place.old self.now.number ready.gate }
         requires empty { IsIdle place.old.me.0 }
-        requires ready { IsReady self.now.job.now self.now.number place.old.me.0 ready }
+        requires ready { IsPrepared self.now.job.now self.now.number place.old.me.0 ready }
         ensures same { IsSamePlace place.old place.new }
         ensures answer { Answers R.layout self.now.job.now self.now.number ready.gate 4
             place.old.me.0 place.new.me.0 result }

@@ -5,7 +5,7 @@ ghost use Rattle.gc_rounds.specs.Places.{IsSamePlace};
 ghost use Rattle.gc_gates.specs.Pairs.{pairs};
 ghost use Rattle.gc_gates.specs.Places.{IsPlaceAt};
 ghost use Rattle.gc_job.specs.ActiveLabels.{active, set_of};
-ghost use Rattle.gc_steps.specs.Views.{IsMadeNow, IsIdle, Answers, AnswersTwo, IsReady, IsAlone, AnswersTwoAlone};
+ghost use Rattle.gc_steps.specs.Views.{IsMadeNow, IsIdle, Answers, AnswersTwo, IsPrepared, IsAlone, AnswersTwoAlone};
 
 use crate::answer::Answer;
 use crate::jobs::Jobs;
@@ -35,8 +35,8 @@ impl<'w, 'c, J: Jobs, R: Frame<J>, B: Allocator, A: Allocator, C: Allocator> Rou
         requires second { IsPlaceAt R.layout J.gates self.now.words.now.table_id
             self.now.words.now.key place.old self.now.number second.gate }
         requires empty { IsIdle place.old.me.0 }
-        requires ready { IsReady self.now.job.now self.now.number place.old.me.0 first
-            × IsReady self.now.job.now self.now.number place.old.me.0 second }
+        requires ready { IsPrepared self.now.job.now self.now.number place.old.me.0 first
+            × IsPrepared self.now.job.now self.now.number place.old.me.0 second }
         ensures same { IsSamePlace place.old place.new }
         ensures answer { Answers R.layout self.now.job.now self.now.number first.gate 4
             place.old.me.0 place.new.me.0 result.0 }
@@ -61,8 +61,8 @@ impl<'w, 'c, J: Jobs, R: Frame<J>, B: Allocator, A: Allocator, C: Allocator> Rou
         requires second { IsPlaceAt R.layout J.gates self.now.words.now.table_id
             self.now.words.now.key place.old self.now.number second.gate }
         requires empty { IsIdle place.old.me.0 }
-        requires ready { IsReady self.now.job.now self.now.number place.old.me.0 first
-            × IsReady self.now.job.now self.now.number place.old.me.0 second }
+        requires ready { IsPrepared self.now.job.now self.now.number place.old.me.0 first
+            × IsPrepared self.now.job.now self.now.number place.old.me.0 second }
         ensures same { IsSamePlace place.old place.new }
         ensures answers { AnswersTwo R.layout self.now.job.now self.now.number first.gate
             second.gate 8 place.old.me.0 place.new.me.0 result }

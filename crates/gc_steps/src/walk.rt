@@ -57,9 +57,9 @@ pub struct Walk<B: Allocator = Global> {
 impl<B: Allocator> Model for Walk<B> {
     ghost use Rattle.std.specs.Prelude.{ℕ, ◌*◌, ◌<◌, ◌≤◌, All, length};
     ghost use Rattle.gc_half.specs.Waiting.{gates_in};
-    ghost use Rattle.gc_steps.specs.Walks.{Progress};
+    ghost use Rattle.gc_steps.specs.Walks.{WalkState};
 
-    ghost Value = { Progress };
+    ghost Value = { WalkState };
 
     ghost view = { λ w. record {
       gates = w.gates;

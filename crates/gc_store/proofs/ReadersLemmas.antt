@@ -9,29 +9,29 @@ use Rattle.gc_netlist.specs.Circuit.{Netlist, IsLawful, first_wire, second_wire}
 use Rattle.gc_netlist.proofs.Tables.{EachRead-below}
 use Rattle.gc_netlist.specs.declared.gate.Operation.{Operation}
 use Rattle.gc_netlist.specs.declared.gate.Gate.{Gate}
-use Rattle.gc_store.specs.Readers.{read_count, IsRead, IsNextRead, IsLinkedFrom, picked, reads_of}
+use Rattle.gc_store.specs.Readers.{read_count, IsReadOf, IsNextRead, IsLinkedFrom, picked, reads_of}
 
 -- a read is one of a circuit's reads,
-IsRead-within : (c : Netlist) (r w : ℕ) → IsRead c r w → r < read_count c
-IsRead-within c r w is = grind (arith, is.which, slice_get_within)
+IsReadOf-within : (c : Netlist) (r w : ℕ) → IsReadOf c r w → r < read_count c
+IsReadOf-within c r w is = grind (arith, is.which, slice_get_within)
 
 -- and reads one wire
-IsRead-same : (c : Netlist) (r v w : ℕ) → IsRead c r v → IsRead c r w → v ≡ w
-IsRead-same c r v w one two = grind (arith, one.which, two.which)
+IsReadOf-same : (c : Netlist) (r v w : ℕ) → IsReadOf c r v → IsReadOf c r w → v ≡ w
+IsReadOf-same c r v w one two = grind (arith, one.which, two.which)
 
 -- a wire that is read is a wire
-IsRead-wire : (c : Netlist) → IsLawful c → (r w : ℕ) → IsRead c r w → w < c.wires
-IsRead-wire c lawful r w is =
+IsReadOf-wire : (c : Netlist) → IsLawful c → (r w : ℕ) → IsReadOf c r w → w < c.wires
+IsReadOf-wire c lawful r w is =
     let each = EachRead-below c lawful is.place is.gate is.at in grind (arith, is.which)
 
 -- a wire without a read at place m has its next read from there on where it has it after m
-skipped : (c : Netlist) (w m n r : ℕ) → n ≡ m + 1 → ¬ IsRead c m w → IsNextRead c w n r
+skipped : (c : Netlist) (w m n r : ℕ) → n ≡ m + 1 → ¬ IsReadOf c m w → IsNextRead c w n r
     → IsNextRead c w m r
 skipped c w m n r one not next = grind (arith, cases_eq, next.none_between)
 
 -- a read is the next one from itself on
-next_itself : (c : Netlist) (w m : ℕ) → IsRead c m w → IsNextRead c w m m
-next_itself c w m is = grind (arith, IsRead-within c m w is)
+next_itself : (c : Netlist) (w m : ℕ) → IsReadOf c m w → IsNextRead c w m m
+next_itself c w m is = grind (arith, IsReadOf-within c m w is)
 
 -- at first no read is linked
 pub unlinked : (c : Netlist) (reads wires : ℕ) (firsts nexts : List ℕ) → reads ≡ read_count c
@@ -44,7 +44,7 @@ unlinked c reads wires firsts nexts count all firsts_are nexts_are =
 module _ (c : Netlist) (lawful : IsLawful c) (m n : ℕ) (firsts nexts : List ℕ) (one : n ≡ m + 1)
     (linked : IsLinkedFrom c n firsts nexts) where
   -- it is of no wire
-  pub link_no_wire : ((w : ℕ) → ¬ IsRead c m w) → IsLinkedFrom c m firsts nexts
+  pub link_no_wire : ((w : ℕ) → ¬ IsReadOf c m w) → IsLinkedFrom c m firsts nexts
   link_no_wire none = record {
     wires = linked.wires;
     reads = linked.reads;
@@ -53,24 +53,24 @@ module _ (c : Netlist) (lawful : IsLawful c) (m n : ℕ) (firsts nexts : List �
   }
 
   -- it is of wire w, whose first read was x
-  pub link_wire : (w x : ℕ) → IsRead c m w → x ≡ get_or firsts w x
+  pub link_wire : (w x : ℕ) → IsReadOf c m w → x ≡ get_or firsts w x
       → IsLinkedFrom c m (set firsts w m) (set nexts m x)
   link_wire w x read at =
-      let wire = IsRead-wire c lawful m w read in
+      let wire = IsReadOf-wire c lawful m w read in
       let inside : w < length firsts = omega (arith, linked.wires) in
-      let within : m < length nexts = omega (arith, linked.reads, IsRead-within c m w read) in
+      let within : m < length nexts = omega (arith, linked.reads, IsReadOf-within c m w read) in
       record {
         wires = length-set firsts w m ∙ linked.wires;
         reads = length-set nexts m x ∙ linked.reads;
         first = λ v below. elim (cases_eq v w) [
           | inl same ↦ rw (same, get_or-set_same firsts w m 0 inside) (next_itself c w m read)
           | inr other ↦ rw (get_or-set_other firsts w v m 0 other)
-              (skipped c v m n (get_or firsts v 0) one (λ is. other (IsRead-same c m v w is read))
+              (skipped c v m n (get_or firsts v 0) one (λ is. other (IsReadOf-same c m v w is read))
               (linked.first v below))
         ];
         next = λ r v from is. elim (cases_eq r m) [
           | inl same ↦
-              let wires = IsRead-same c m v w (rw same at is) read in
+              let wires = IsReadOf-same c m v w (rw same at is) read in
               let first = get_or_read firsts w x inside at 0 in
               rw (same, wires, get_or-set_same nexts m x 0 within, first, ← one)
               (linked.first w wire)
@@ -104,11 +104,11 @@ passed_here w r next k o more here is = grind (arith, nat_tests)
 
 module _ (c : Netlist) (w : ℕ) where
   first_read : (i : ℕ) (g : Gate) → slice_get c.gates i ≡ Some g → first_wire g.operation ≡ Some w
-      → IsRead c (2 * i) w
+      → IsReadOf c (2 * i) w
   first_read i g at is = record { place = i; gate = g; at = at; which = inl (refl, is) }
 
   second_read : (i : ℕ) (g : Gate) → slice_get c.gates i ≡ Some g → second_wire g.operation ≡ Some w
-      → IsRead c (2 * i + 1) w
+      → IsReadOf c (2 * i + 1) w
   second_read i g at is = record { place = i; gate = g; at = at; which = inr (refl, is) }
 
   -- no read is passed before the first one
@@ -117,7 +117,7 @@ module _ (c : Netlist) (w : ℕ) where
   passed_none r next i g at =
       grind (arith, nat_tests, first_read i g at, second_read i g at, next.none_between)
 
-  module _ (r next : ℕ) (is : IsRead c r w) (after : IsNextRead c w (r + 1) next) where
+  module _ (r next : ℕ) (is : IsReadOf c r w) (after : IsNextRead c w (r + 1) next) where
     -- a read passes one of the reads of its gate,
     passes_own : passed_reads w next is.place is.gate.operation
         ≡ passed_reads w r is.place is.gate.operation + 1
@@ -141,7 +141,7 @@ module _ (c : Netlist) (w : ℕ) where
 -- How far counting down has come at read r: a countdown and the reads passed give what it was.
 pub record IsCounted (c : Netlist) (w r : ℕ) (was now : List ℕ) : Type 0 where
   pub ends : r ≤ read_count c
-  pub here : r < read_count c → IsRead c r w
+  pub here : r < read_count c → IsReadOf c r w
   pub counted : (i : ℕ) (g : Gate) → slice_get c.gates i ≡ Some g
       → get_or now i 0 + passed_reads w r i g.operation ≡ get_or was i 0
 
@@ -152,7 +152,7 @@ module _ (c : Netlist) (w : ℕ) where
   module _ (r next : ℕ) (was now : List ℕ) (fits : (i : ℕ) (g : Gate) → slice_get c.gates i ≡ Some g
       → reads_of w g.operation ≤ get_or was i 0) (counted : IsCounted c w r was now)
       (below : r < read_count c) (after : IsNextRead c w (r + 1) next) where
-    is : IsRead c r w
+    is : IsReadOf c r w
     is = counted.here below
 
     -- the gate of the read can be counted down,

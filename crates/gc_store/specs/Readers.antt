@@ -31,7 +31,7 @@ abbrev pub read_count : Netlist → ℕ
 read_count c = 2 * length c.gates
 
 -- Read r is of wire w.
-pub record IsRead (c : Netlist) (r w : ℕ) : Type 0 where
+pub record IsReadOf (c : Netlist) (r w : ℕ) : Type 0 where
   pub place : ℕ
   pub gate : Gate
   pub at : slice_get c.gates place ≡ Some gate
@@ -41,16 +41,16 @@ pub record IsRead (c : Netlist) (r w : ℕ) : Type 0 where
 -- Read r is the first read of wire w from read `start` on. Where there is none, r is past all reads.
 pub record IsNextRead (c : Netlist) (w start r : ℕ) : Type 0 where
   pub after : start ≤ r
-  pub none_between : (k : ℕ) → start ≤ k → k < r → ¬ IsRead c k w
+  pub none_between : (k : ℕ) → start ≤ k → k < r → ¬ IsReadOf c k w
   pub ends : r ≤ read_count c
-  pub here : r < read_count c → IsRead c r w
+  pub here : r < read_count c → IsReadOf c r w
 
 -- From read `start` on, each wire has its first read, and each read the next read of its wire.
 pub record IsLinkedFrom (c : Netlist) (start : ℕ) (firsts nexts : List ℕ) : Type 0 where
   pub wires : length firsts ≡ c.wires
   pub reads : length nexts ≡ read_count c
   pub first : (w : ℕ) → w < c.wires → IsNextRead c w start (slice_index firsts w)
-  pub next : (r w : ℕ) → start ≤ r → IsRead c r w → IsNextRead c w (r + 1) (slice_index nexts r)
+  pub next : (r w : ℕ) → start ≤ r → IsReadOf c r w → IsNextRead c w (r + 1) (slice_index nexts r)
 
 -- The reads of each wire are linked.
 abbrev pub IsLinked : Netlist → List ℕ → List ℕ → Type 0

@@ -4,8 +4,8 @@ use Rattle.gc_store.specs.declared.task.Task.{Task}
 use Rattle.gc_store.specs.declared.refusal.Refused.{Refused}
 use Rattle.gc_store.specs.declared.shared.Finding.{Finding}
 use Rattle.gc_store.specs.declared.shared.Finding.TheVariants as finding
-use Rattle.gc_store.specs.declared.shared.Woken.{Woken}
-use Rattle.gc_store.specs.declared.shared.Woken.TheVariants as woken
+use Rattle.gc_store.specs.declared.shared.Notify.{Notify}
+use Rattle.gc_store.specs.declared.shared.Notify.TheVariants as notify
 use Rattle.gc_store.specs.Content.{Content, IsClaimed, IsReady, AllFinished}
 use Rattle.gc_store.specs.Refusal.{sealed_of}
 use Rattle.gc_store.specs.Step.{Claims, ClaimsSome, Finishes}
@@ -86,7 +86,7 @@ HandsOver stopped old tasks before (Err refused) new after =
 
 -- Whom a hand-in wakes of the threads that sleep, and how many sleep then. It wakes nobody only where nobody sleeps, or
 -- no gate is ready and one is claimed; and all where none is claimed.
-abbrev pub Wakes : Content → ℕ → Woken → ℕ → Type 0
-Wakes s before woken.Nobody after = (after ≡ before) × ((before ≡ 0) ⊎ (HasClaimed s × NoneReady s))
-Wakes s before woken.One after = (before ≡ after + 1) × HasClaimed s
-Wakes s before woken.All after = (after ≡ 0) × (¬ HasClaimed s)
+abbrev pub Wakes : Content → ℕ → Notify → ℕ → Type 0
+Wakes s before notify.None after = (after ≡ before) × ((before ≡ 0) ⊎ (HasClaimed s × NoneReady s))
+Wakes s before notify.One after = (before ≡ after + 1) × HasClaimed s
+Wakes s before notify.All after = (after ≡ 0) × (¬ HasClaimed s)

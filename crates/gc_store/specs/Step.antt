@@ -85,7 +85,7 @@ reopened Claimed = Free
 reopened (Finished label rows) = Finished label rows
 
 -- Reopening: claimed gates are free again, and the result is how many they were.
-abbrev pub Reopens : Content → ℕ → Content → Type 0
-Reopens old answer new =
+abbrev pub ReopensClaimed : Content → ℕ → Content → Type 0
+ReopensClaimed old answer new =
     (answer ≡ count_by is_claimed old.states)
     × (new ≡ record old { states = map reopened old.states })

@@ -3,7 +3,7 @@
 ghost use Rattle.std.specs.Prelude.{◌≡◌, ◌↔◌, ◌<◌, ◌^◌, ℕ, IsTrue, IfOk, IfErr, count_by};
 ghost use Rattle.gc_half.specs.Garbling.{IsGarbled};
 ghost use Rattle.gc_store.specs.Content.{is_claimed, is_finished, IsClaimed, AllFinished, IsLawfulContent, opened};
-ghost use Rattle.gc_store.specs.Step.{IsOwnTask, with_sealed, Claims, ClaimsSome, Finishes, Reopens};
+ghost use Rattle.gc_store.specs.Step.{IsOwnTask, with_sealed, Claims, ClaimsSome, Finishes, ReopensClaimed};
 ghost use Rattle.gc_store.specs.Readers.{IsLinked};
 ghost use Rattle.gc_store.specs.Beginning.{Begins};
 ghost use Rattle.gc_store.specs.Kept.{ReadsKnown};
@@ -255,7 +255,7 @@ impl<A: Allocator> PartialGarbling<A> {
 
     /// Frees all claimed gates. Returns how many they were.
     pub(crate) fn reopen(&mut self) -> u32
-        ensures { Reopens self.old result self.new }
+        ensures { ReopensClaimed self.old result self.new }
     {
         let count = self.claimed();
         self.queue.reopen();

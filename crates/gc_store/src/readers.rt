@@ -2,7 +2,7 @@
 
 ghost use Rattle.std.specs.Prelude.{◌≡◌, ◌<◌, ◌≤◌, ◌+◌, ℕ, IfOk, MatchOption, Some, length, slice_get, slice_index_or};
 ghost use Rattle.gc_netlist.specs.declared.gate.Gate.{Gate};
-ghost use Rattle.gc_store.specs.Readers.{reads_of, read_count, IsRead, IsLinked};
+ghost use Rattle.gc_store.specs.Readers.{reads_of, read_count, IsReadOf, IsLinked};
 
 use crate::queue::Queue;
 use crate::tables::repeated;
@@ -74,7 +74,8 @@ impl<A: Allocator> Readers<A> {
 #[inline]
 fn wire_read<C: Allocator>(circuit: &Circuit<C>, read: u32) -> Option<u32>
     requires { read < read_count circuit.now }
-    ensures { MatchOption result ((w : ℕ) → ¬ IsRead circuit.now read w) (IsRead circuit.now read) }
+    ensures { MatchOption result ((w : ℕ) → ¬ IsReadOf circuit.now read w)
+        (IsReadOf circuit.now read) }
 {
     let operation = circuit.gate(read / 2).operation;
     if read % 2 == 0 {

@@ -58,14 +58,14 @@ enum Finding {
     Nothing,
 }
 
-/// Whom a hand-in wakes.
-enum Woken {
+/// Which sleeping threads a hand-in notifies.
+enum Notify {
     /// A gate may be ready, so one thread that sleeps.
     One,
     /// No gate is claimed, so all threads that sleep.
     All,
-    /// Nobody.
-    Nobody,
+    /// No thread.
+    None,
 }
 
 impl<L: Ledger, A: Allocator> LockedStore<L, A> {
@@ -125,7 +125,7 @@ impl<L: Ledger, A: Allocator> LockedStore<L, A> {
         sealed: &[Sealed],
         tally: &mut Tally<L>,
         batch: &mut Batch,
-    ) -> (Result<bool, Refused>, Woken)
+    ) -> (Result<bool, Refused>, Notify)
         ensures lent { HandsInAll sealed.now tally.old batch.old result.0 tally.new batch.new }
         ensures content { HandsOver self.old.stopped self.old.store.content sealed.now
             batch.old result.0
@@ -142,22 +142,22 @@ impl<L: Ledger, A: Allocator> LockedStore<L, A> {
     }
 
     /// Whom to wake, and counts them as awake.
-    fn to_wake(&mut self, may_be_ready: bool) -> Woken
+    fn to_wake(&mut self, may_be_ready: bool) -> Notify
         requires { IsFalse may_be_ready → NoneReady self.old.store.content }
         ensures wakes { Wakes self.new.store.content self.old.sleeping result self.new.sleeping }
         ensures same { self.new.store ≡ self.old.store }
         ensures stopped { self.new.stopped ≡ self.old.stopped }
     {
         if self.sleeping == 0 {
-            Woken::Nobody
+            Notify::None
         } else if !self.store.has_claimed() {
             self.sleeping = 0;
-            Woken::All
+            Notify::All
         } else if may_be_ready {
             self.sleeping -= 1;
-            Woken::One
+            Notify::One
         } else {
-            Woken::Nobody
+            Notify::None
         }
     }
 }
@@ -189,12 +189,12 @@ impl<L: Ledger, A: Allocator> SharedStore<L, A> {
     }
 
     /// Gives the lock back, and wakes threads that sleep because no task is ready.
-    fn leave(&self, locked: MutexGuard<'_, CachePadded<LockedStore<L, A>>>, woken: Woken) {
+    fn leave(&self, locked: MutexGuard<'_, CachePadded<LockedStore<L, A>>>, notify: Notify) {
         drop(locked);
-        match woken {
-            Woken::One => self.moved.notify_one(),
-            Woken::All => self.moved.notify_all(),
-            Woken::Nobody => {}
+        match notify {
+            Notify::One => self.moved.notify_one(),
+            Notify::All => self.moved.notify_all(),
+            Notify::None => {}
         }
     }
 
@@ -229,8 +229,8 @@ impl<L: Ledger, A: Allocator> SharedStore<L, A> {
         ensures { HandsIn sealed tally.old batch.old result tally.new batch.new }
     {
         let mut locked = self.enter(rt);
-        let (handed_in, woken) = locked.hand_in_all(&[sealed], tally, batch);
-        self.leave(locked, woken);
+        let (handed_in, notify) = locked.hand_in_all(&[sealed], tally, batch);
+        self.leave(locked, notify);
         handed_in
     }
 
@@ -250,8 +250,8 @@ impl<L: Ledger, A: Allocator> SharedStore<L, A> {
     {
         let Claimant { tally, batch } = claimant;
         let mut locked = self.enter(rt);
-        let (handed_in, woken) = locked.hand_in_all(sealed, tally, batch);
-        self.leave(locked, woken);
+        let (handed_in, notify) = locked.hand_in_all(sealed, tally, batch);
+        self.leave(locked, notify);
         handed_in
     }
 

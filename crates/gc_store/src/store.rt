@@ -5,7 +5,7 @@ ghost use Rattle.gc_half.specs.Garbling.{IsGarbled};
 ghost use Rattle.gc_store.specs.Content.{is_finished, AllFinished, IsClaimed};
 ghost use Rattle.gc_store.specs.Account.{IsLawfulAccount, IsForStore, IsOpened};
 ghost use Rattle.gc_workers.specs.declared.TheConstants.{MAX_WORKERS};
-ghost use Rattle.gc_store.specs.Step.{Claims, ClaimsSome, Finishes, Deals, Settles, Reopens};
+ghost use Rattle.gc_store.specs.Step.{Claims, ClaimsSome, Finishes, Deals, Settles, ReopensClaimed};
 
 use crate::batch::Batch;
 use crate::partial::{Opening, PartialGarbling};
@@ -167,7 +167,7 @@ impl<L: Ledger, A: Allocator> Store<L, A> {
 
     /// Makes each claimed gate free again. Returns how many they were.
     pub fn reopen(&mut self) -> u32
-        ensures step { Reopens self.old.content result self.new.content }
+        ensures step { ReopensClaimed self.old.content result self.new.content }
         ensures tallies { self.new.tallies ≡ self.old.tallies }
     {
         self.progress.reopen()

@@ -10,7 +10,7 @@ use gc_file::{
 use gc_fixtures::circuits::AND;
 use gc_fixtures::compare::equal;
 use gc_fixtures::files::{and_file, label_file, zero_seed};
-use gc_fixtures::growths::{Answer, answer_of, runs_refused};
+use gc_fixtures::growths::{Returned, answer_of, runs_refused};
 use gc_fixtures::refusing::Refusing;
 use gc_half::{garble_one_thread, output_entry};
 use gc_label::offset;
@@ -38,7 +38,7 @@ impl Call {
     }
 
     /// What it returned over this memory.
-    fn answer<A: Allocator + Copy>(self, heap: A, file: &[u8]) -> Answer {
+    fn answer<A: Allocator + Copy>(self, heap: A, file: &[u8]) -> Returned {
         match self {
             Call::ReadGarbled => answer_of(read_garbled(heap, file), FileFault::Memory),
             Call::ReadByDigest => {
@@ -91,7 +91,7 @@ fn faults_before_the_rows_take_no_memory(rt: HostRuntime) -> Result<(), Fail> {
         }
         let heap = Refusing::never(rt.alloc());
         let answer = call.answer(&heap, &file);
-        equal((bit, answer, heap.growths()), (bit, Answer::Other, 0))?;
+        equal((bit, answer, heap.growths()), (bit, Returned::Other, 0))?;
     }
     Ok(())
 }
@@ -134,14 +134,14 @@ fn room_for_rows_doubles(rt: HostRuntime) -> Result<(), Fail> {
 static PIECE: [u8; 16_384] = [0; 16_384];
 
 /// What came of five pieces that go to a sink in memory, which takes one that it was refused memory for the next time.
-fn filled<A: Allocator>(heap: A) -> Answer {
+fn filled<A: Allocator>(heap: A) -> Returned {
     let mut sink = MemSink::new(heap, None);
-    let mut answer = Answer::Plain;
+    let mut answer = Returned::Plain;
     for _piece in 0..5 {
         if sink.put(&PIECE).is_err() {
-            answer = Answer::Memory;
+            answer = Returned::Memory;
             if sink.put(&PIECE) != Ok(PIECE.len()) {
-                return Answer::Other;
+                return Returned::Other;
             }
         }
     }

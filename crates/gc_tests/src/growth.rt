@@ -8,7 +8,7 @@ use gc_circuit::{
 use gc_fixtures::circuits::{FULL_ADDER, many_ands, one_zero_one};
 use gc_fixtures::compare::equal;
 use gc_fixtures::files::zero_seed;
-use gc_fixtures::growths::{Answer, answer_of, runs_refused};
+use gc_fixtures::growths::{Returned, answer_of, runs_refused};
 use gc_fixtures::refusing::Refusing;
 use gc_half::{
     FirstAnd, RowPair, Start, StreamingEvaluator, StreamingGarbler, garble_one_thread, garble_two,
@@ -83,13 +83,13 @@ fn made_and<A: Allocator + Copy>(heap: A) -> Result<Circuit<A>, ArraysFault> {
 }
 
 /// What beginning a garbler or an evaluator of the circuit returned, which has three input wires.
-fn begun<A: Allocator + Copy>(call: Call, heap: A, circuit: &Circuit) -> Answer {
+fn begun<A: Allocator + Copy>(call: Call, heap: A, circuit: &Circuit) -> Returned {
     let zero_labels = &[Label::ZERO; 3];
     let Some(first) = FirstAnd::new(0, circuit.and_count()) else {
-        return Answer::Other;
+        return Returned::Other;
     };
     if circuit.input_wires() != 3 {
-        return Answer::Other;
+        return Returned::Other;
     }
     let start = Start {
         offset: offset(&zero_seed()),
@@ -110,7 +110,7 @@ fn answer<A: Allocator + Copy>(
     heap: A,
     circuit: &Circuit,
     values: &[Vec<bool>],
-) -> Answer {
+) -> Returned {
     match call {
         Call::Read => answer_of(
             Circuit::read(heap, FULL_ADDER.as_bytes()),
@@ -124,7 +124,7 @@ fn answer<A: Allocator + Copy>(
         Call::ShowValue => answer_of(show_value(heap, &[true, false]), Memory),
         Call::PlainEval => {
             if !fits(circuit, values) {
-                return Answer::Other;
+                return Returned::Other;
             }
             answer_of(plain_eval(heap, circuit, values), Memory)
         }

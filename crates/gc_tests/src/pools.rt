@@ -6,7 +6,7 @@ ghost use Rattle.gc_work.specs.Pool.{AllOf};
 use gc_circuit::{Memory, Operation};
 use gc_fixtures::compare::equal;
 use gc_fixtures::files::zero_seed;
-use gc_fixtures::growths::{Answer, answer_of, refusals_met, runs_refused};
+use gc_fixtures::growths::{Returned, answer_of, refusals_met, runs_refused};
 use gc_fixtures::refusing::Refusing;
 use gc_label::{Label, offset};
 use gc_store::Task;
@@ -102,7 +102,7 @@ fn pool_hands_out_without_thieves(rt: HostRuntime) -> Result<(), Fail> {
 }
 
 /// What opening a pool with three thieves returned.
-fn opens(heap: &Refusing<Global>) -> Answer {
+fn opens(heap: &Refusing<Global>) -> Returned {
     answer_of(TaskPool::open(heap, 2, 3), Memory)
 }
 
@@ -185,9 +185,9 @@ fn hands_out_all<A: Allocator>(
 
 /// What came of 64 pushes to a pool with room for two tasks: it takes all, or, where memory is refused, at least two,
 /// and gives the next one back; it hands out those that it took, and no others. Or it doesn't open.
-fn fills(heap: &Refusing<Global>) -> Answer {
+fn fills(heap: &Refusing<Global>) -> Returned {
     let Ok((pool, mut owner, thieves)) = TaskPool::open(heap, 2, 1) else {
-        return Answer::Memory;
+        return Returned::Memory;
     };
     let (pushed, refused) = push_some(&pool, &mut owner, 64);
     let is_right = match refused {
@@ -195,9 +195,9 @@ fn fills(heap: &Refusing<Global>) -> Answer {
         Some(refused) => pushed >= 2 && refused.task == task(pushed) && heap.refused() == 1,
     };
     if is_right && hands_out_all(pool, owner, thieves, pushed) == Some(true) {
-        Answer::Plain
+        Returned::Plain
     } else {
-        Answer::Other
+        Returned::Other
     }
 }
 

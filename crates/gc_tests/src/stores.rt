@@ -8,7 +8,7 @@ use gc_circuit::Circuit;
 use gc_fixtures::circuits::FULL_ADDER;
 use gc_fixtures::compare::equal;
 use gc_fixtures::files::zero_seed;
-use gc_fixtures::growths::{Answer, runs_refused};
+use gc_fixtures::growths::{Returned, runs_refused};
 use gc_fixtures::refusing::Refusing;
 use gc_store::{Batch, Sealed, Store, Tally, TallyMissing, Task};
 use std::alloc::{Allocator, Global};
@@ -115,17 +115,17 @@ fn tallies_add_up(rt: HostRuntime) -> Result<(), Fail> {
 }
 
 /// Whether a store of the full adder opens; its circuit is read over the same memory.
-fn opens<L: Ledger, A: Allocator + Copy>(alloc: A, ledger: Blank) -> Answer
+fn opens<L: Ledger, A: Allocator + Copy>(alloc: A, ledger: Blank) -> Returned
     requires { IsForStore L.name L.parts ledger }
 {
     match open::<L, A>(alloc, ledger) {
-        Some(_) => Answer::Plain,
-        None => Answer::Memory,
+        Some(_) => Returned::Plain,
+        None => Returned::Memory,
     }
 }
 
 /// The same, with a ledger of its own.
-fn opens_anew(heap: &Refusing<Global>) -> Answer {
+fn opens_anew(heap: &Refusing<Global>) -> Returned {
     opens::<Brand, &Refusing<Global>>(heap, ledger())
 }
 

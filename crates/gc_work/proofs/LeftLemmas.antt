@@ -1,5 +1,5 @@
 -- What is left of a gathered pool, and one task that is taken from it.
-use Rattle.gc_work.proofs.Names.{◌≡◌, ℕ, ◌+◌, ◌<◌, Bool, true, false, cond, List, [], ◌∷◌, ◌++◌, length, Option, Some, None, MatchOption, sym, refl, ap, ◌∙◌, append_assoc, rules, arith, sum_by-cons, sum_by-append, sum_by_push, Task, PoolAccount, IsTaken, weigh, account, all_parts, Knows, KnowsSome, IsGathered}
+use Rattle.gc_work.proofs.Names.{◌≡◌, ℕ, ◌+◌, ◌<◌, Bool, true, false, cond, List, [], ◌∷◌, ◌++◌, length, Option, Some, None, MatchOption, sym, refl, ap, ◌∙◌, append_assoc, rules, arith, sum_by-cons, sum_by-append, sum_by_push, Task, PoolAccount, IsTakenFrom, weigh, account, all_parts, AccountsFor, AccountsForSome, IsGathered}
 use Rattle.std.specs.Bool.{Decides}
 use Rattle.std.proofs.lemmas.Bool.Decides.{Decides-and, Decides-like, Decides-eqb}
 use Rattle.std.specs.Set.{remove_key}
@@ -44,20 +44,21 @@ is_itself task = ap (λ b. cond b 1 0) ((decides task task).1 refl)
 
 -- a task that is in the list is taken from it
 taken : (task : Task) (tasks : List Task) → 0 < weigh (is task) tasks
-    → IsTaken task tasks (remove_key (same_task task) tasks)
+    → IsTakenFrom task tasks (remove_key (same_task task) tasks)
 taken task [] some = absurd (omega arith)
 taken task (t ∷ ts) some = by (same_task task t) refl (taken task ts)
   where
     by : (b : Bool) → same_task task t ≡ b
-        → (0 < weigh (is task) ts → IsTaken task ts (remove_key (same_task task) ts))
-        → IsTaken task (t ∷ ts) (cond b ts (t ∷ remove_key (same_task task) ts))
+        → (0 < weigh (is task) ts → IsTakenFrom task ts (remove_key (same_task task) ts))
+        → IsTakenFrom task (t ∷ ts) (cond b ts (t ∷ remove_key (same_task task) ts))
     by true same later = ([], ts, ap (λ x. x ∷ ts) (sym ((decides task t).0 same)), refl)
     by false other later =
         let none : is task t ≡ 0 = ap (λ b. cond b 1 0) other in
         let rest = later (omega (arith, sum_by-cons (is task) t ts)) in
         (t ∷ rest.0, rest.1, ap (λ xs. t ∷ xs) rest.2, ap (λ xs. t ∷ xs) rest.3)
 
-taken-weigh : (h : Task → ℕ) (task : Task) (before after : List Task) → IsTaken task before after
+taken-weigh : (h : Task → ℕ) (task : Task) (before after : List Task)
+    → IsTakenFrom task before after
     → weigh h before ≡ h task + weigh h after
 taken-weigh h task before after (front, back, was, now) = rw (was, now) (omega (
   arith,
@@ -87,7 +88,7 @@ without-push tasks [] task = refl
 without-push tasks (t ∷ ts) task = without-push (remove_key (same_task t) tasks) ts task
 
 -- an account with all parts, which knows the tasks in the pool, is a gathered pool's
-gathered : (v : PoolAccount) → v.parts ≡ all_parts → KnowsSome v → IsGathered v
+gathered : (v : PoolAccount) → v.parts ≡ all_parts → AccountsForSome v → IsGathered v
 gathered v all (tasks, knows) = record {
   parts = all;
   conserved = λ h.
@@ -99,8 +100,8 @@ gathered v all (tasks, knows) = record {
 
 -- a task that was popped is taken from what was left
 hands_one : (v w : PoolAccount) (task : Task) → IsGathered v
-    → w ≡ account v.parts v.pushed (v.popped ++ task ∷ []) v.stolen → KnowsSome w
-    → IsTaken task (left_of v) (left_of w)
+    → w ≡ account v.parts v.pushed (v.popped ++ task ∷ []) v.stolen → AccountsForSome w
+    → IsTakenFrom task (left_of v) (left_of w)
 hands_one v w task g is_w some =
     let knows = rw is_w at some in
     let gone = v.stolen ++ v.popped in
@@ -119,13 +120,13 @@ nothing (t ∷ ts) none = absurd (omega (arith, sum_by-cons (λ (_ : Task). 1) t
 
 -- what an account with all parts says of the tasks in the pool
 pub counted : (v w : PoolAccount) (count : ℕ) → w ≡ v → w.parts ≡ all_parts
-    → (tasks : List Task) × (length tasks ≡ count) × Knows v tasks → IsGathered w
+    → (tasks : List Task) × (length tasks ≡ count) × AccountsFor v tasks → IsGathered w
 counted v w count same all (tasks, _, knows) = gathered w all (tasks, rw same knows)
 
 -- how `next` changes the account
 abbrev pub HandsOut : PoolAccount → PoolAccount → Option Task → Type 0
-HandsOut v w r = MatchOption r ((w ≡ v) × Knows v [])
-    (λ t. (w ≡ account v.parts v.pushed (v.popped ++ t ∷ []) v.stolen) × KnowsSome w)
+HandsOut v w r = MatchOption r ((w ≡ v) × AccountsFor v [])
+    (λ t. (w ≡ account v.parts v.pushed (v.popped ++ t ∷ []) v.stolen) × AccountsForSome w)
 
 pub still_gathered : (v w : PoolAccount) (r : Option Task) → IsGathered v → HandsOut v w r
     → IsGathered w
@@ -134,7 +135,7 @@ still_gathered v w (Some task) g (is, knows) =
     gathered w (ap (λ (u : PoolAccount). u.parts) is ∙ g.parts) knows
 
 pub takes_one : (v w : PoolAccount) (r : Option Task) → IsGathered v → HandsOut v w r
-    → MatchOption r (left_of v ≡ []) (λ t. IsTaken t (left_of v) (left_of w))
+    → MatchOption r (left_of v ≡ []) (λ t. IsTakenFrom t (left_of v) (left_of w))
 takes_one v w None g (_, empty) =
     nothing (left_of v) (omega (arith, g.conserved (λ _. 1), empty.whole g.parts (λ _. 1)))
 takes_one v w (Some task) g (is, knows) = hands_one v w task g is knows

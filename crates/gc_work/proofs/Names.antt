@@ -9,7 +9,7 @@ pub use Rattle.gc_workers.proofs.Whole.{whole_back}
 pub use Rattle.gc_half.proofs.RowLemmas.{slice_get-append, slice_get-push}
 pub use Rattle.gc_store.specs.declared.task.Task.{Task}
 pub use Rattle.gc_work.specs.Kept.{IsGathered, IsOwning}
-pub use Rattle.gc_work.specs.Places.{ArePlaced, AreOwners, AreRows, IsReady}
-pub use Rattle.gc_work.specs.Pool.{IsTaken, weigh, ThiefParts, AllOf, stolen_by}
-pub use Rattle.gc_work.specs.PoolRule.{account, all_parts, Knows, KnowsSome, total, gone, IsIdle, IdleIsEmpty, IsBalanced}
+pub use Rattle.gc_work.specs.Places.{ArePlaced, AreOwners, AreAllPlaced, IsPlacedWorker}
+pub use Rattle.gc_work.specs.Pool.{IsTakenFrom, weigh, ThiefParts, AllOf, stolen_by}
+pub use Rattle.gc_work.specs.PoolRule.{account, all_parts, AccountsFor, AccountsForSome, total, gone, IsEmptyIfIdle, IdleIsEmpty, IsBalanced}
 pub use Rattle.gc_work.specs.declared.account.PoolAccount.{PoolAccount}

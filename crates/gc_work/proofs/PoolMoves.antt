@@ -1,5 +1,5 @@
 -- Each move keeps the rule of a pool.
-use Rattle.gc_work.proofs.Names.{◌≡◌, ℕ, zero, suc, ◌+◌, ◌-◌, ◌^◌, ◌<◌, ◌≤◌, List, [], ◌∷◌, ◌++◌, append_assoc, append-nil, set, inl, inr, sym, refl, ap, ◌∙◌, subst, arith, sum_by-cons, sum_by-append, sum_by_push, Task, PoolAccount, RowsId, ThiefParts, AllOf, stolen_by, weigh, IsOwning, account, total, gone, IsIdle, IdleIsEmpty, IsBalanced, Knows, KnowsSome}
+use Rattle.gc_work.proofs.Names.{◌≡◌, ℕ, zero, suc, ◌+◌, ◌-◌, ◌^◌, ◌<◌, ◌≤◌, List, [], ◌∷◌, ◌++◌, append_assoc, append-nil, set, inl, inr, sym, refl, ap, ◌∙◌, subst, arith, sum_by-cons, sum_by-append, sum_by_push, Task, PoolAccount, RowsId, ThiefParts, AllOf, stolen_by, weigh, IsOwning, account, total, gone, IsEmptyIfIdle, IdleIsEmpty, IsBalanced, AccountsFor, AccountsForSome}
 use mathlib.Core.Option.{some, some-ne-none, some-injective}
 use lib.ListN.{get_elem?}
 use Rattle.crossbeam_deque.specs.Tasks.{Pushes, Takes, Pops, Finds, Forks, Merges, Learns}
@@ -34,18 +34,19 @@ none_done f none (x ∷ xs) nil empty =
     let rest = none_done f none xs (omega arith) (λ port v e. empty (suc port) v e) in
     omega (arith, sum_by-cons f x xs, ap f (empty 0 x refl (omega arith)))
 
-idle_set : (views : List PoolAccount) (port : ℕ) (w : PoolAccount) → IsIdle w → IdleIsEmpty views
+idle_set : (views : List PoolAccount) (port : ℕ) (w : PoolAccount) → IsEmptyIfIdle w
+    → IdleIsEmpty views
     → IdleIsEmpty (set views port w)
 idle_set views port w mine old j u e = elim (at_set views port j w u e) [
-  | inl (here, is) ↦ subst IsIdle is mine
+  | inl (here, is) ↦ subst IsEmptyIfIdle is mine
   | inr (other, at) ↦ old j u at
 ]
 
-idle_push : (views : List PoolAccount) (w : PoolAccount) → IsIdle w → IdleIsEmpty views
+idle_push : (views : List PoolAccount) (w : PoolAccount) → IsEmptyIfIdle w → IdleIsEmpty views
     → IdleIsEmpty (views ++ w ∷ [])
 idle_push views w mine old j u e = elim (at_snoc views w u j e) [
   | inl at ↦ old j u at
-  | inr is ↦ subst IsIdle is mine
+  | inr is ↦ subst IsEmptyIfIdle is mine
 ]
 
 -- the view that has every part did all that was done
@@ -149,7 +150,7 @@ merges port v other u part is items views b at apart at' =
           (idle_set views port both (λ none. absurd (omega arith)) b.2),
     )
 
-pub learns : (port : ℕ) (v : PoolAccount) → Learns IsBalanced port v (Knows v)
+pub learns : (port : ℕ) (v : PoolAccount) → Learns IsBalanced port v (AccountsFor v)
 learns port v items views b at = record {
   bound = omega (arith, total_set parts views port v idle at, b.0);
   whole = λ all h.
@@ -158,26 +159,26 @@ learns port v items views b at = record {
       omega (arith, b.1 h);
 }
 
-pub finds : (port : ℕ) (v : PoolAccount) → Finds IsBalanced port v (Knows v [])
+pub finds : (port : ℕ) (v : PoolAccount) → Finds IsBalanced port v (AccountsFor v [])
 finds port v views b at = learns port v [] views b at
 
 -- after a step that keeps the rule, the account knows the tasks in the pool
 known : (items : List Task) (views : List PoolAccount) (port : ℕ) (v w : PoolAccount)
-    → IsBalanced items (set views port w) → get_elem? views port ≡ some v → KnowsSome w
+    → IsBalanced items (set views port w) → get_elem? views port ≡ some v → AccountsForSome w
 known items views port v w b at =
     let here = set_here views port w (at_lt views port v at) in
     (items, learns port w items (set views port w) b here)
 
 pub hands : (port : ℕ) (v : PoolAccount) → 0 < v.parts
     → Pops IsBalanced port v
-    (λ xs w. (w ≡ account v.parts v.pushed (v.popped ++ xs) v.stolen) × KnowsSome w)
+    (λ xs w. (w ≡ account v.parts v.pushed (v.popped ++ xs) v.stolen) × AccountsForSome w)
 hands port v part x items views b at =
     let step = pops port v part x items views b at in
     (step.0, step.1, (step.2, known items views port v step.0 step.1 at))
 
 pub hands_first : (port : ℕ) (v : PoolAccount) (most : ℕ) → 0 < v.parts
     → Takes IsBalanced port v most
-    (λ xs w. (w ≡ account v.parts v.pushed (v.popped ++ xs) v.stolen) × KnowsSome w)
+    (λ xs w. (w ≡ account v.parts v.pushed (v.popped ++ xs) v.stolen) × AccountsForSome w)
 hands_first port v most part xs items views least few b at =
     let step = pops_first port v most part xs items views least few b at in
     (step.0, step.1, (step.2, known items views port v step.0 step.1 at))

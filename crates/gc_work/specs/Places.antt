@@ -15,14 +15,14 @@ module _ {A : Type 0} where
   ArePlaced pools rs = All (λ r. IsAt pools r) rs
 
   -- each worker's thieves are at the pools of their places
-  abbrev pub AreRows : List (RowsId × A) → List (Vec (PlacedThief A) A) → Type 0
-  AreRows pools rows = All (λ row. ArePlaced pools row.items) rows
+  abbrev pub AreAllPlaced : List (RowsId × A) → List (Vec (PlacedThief A) A) → Type 0
+  AreAllPlaced pools rows = All (λ row. ArePlaced pools row.items) rows
 
   -- each owner is of the pool of its place
   abbrev pub AreOwners : List (RowsId × A) → List (PlacedOwner A) → Type 0
   AreOwners pools owners = All (λ o. slice_get pools o.place ≡ Some o.owner.pool) owners
 
   -- the worker has the owner of the pool of its place, and its thieves are at the pools of theirs
-  pub record IsReady {L : Type 0} (pools : List (RowsId × A)) (w : Worker L A) : Type 0 where
+  pub record IsPlacedWorker {L : Type 0} (pools : List (RowsId × A)) (w : Worker L A) : Type 0 where
     pub own : slice_get pools w.place ≡ Some w.owner.pool
     pub others : ArePlaced pools w.thieves.items

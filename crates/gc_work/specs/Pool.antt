@@ -46,7 +46,7 @@ IsConserved pushed popped stolen left =
     (h : Task → ℕ) → weigh h pushed ≡ weigh h popped + weigh h stolen + weigh h left
 
 -- The task is one of those before, and the rest stays, in its order.
-abbrev pub IsTaken : Task → List Task → List Task → Type 0
-IsTaken task before after =
+abbrev pub IsTakenFrom : Task → List Task → List Task → Type 0
+IsTakenFrom task before after =
     (front : List Task) × (back : List Task)
     × (before ≡ front ++ task ∷ back) × (after ≡ front ++ back)

@@ -27,11 +27,12 @@ abbrev pub gone : (Task → ℕ) → PoolAccount → ℕ
 gone h v = weigh h v.popped + weigh h v.stolen
 
 -- A holder with no part has done nothing.
-abbrev pub IsIdle : PoolAccount → Type 0
-IsIdle v = v.parts ≡ 0 → v ≡ account 0 [] [] []
+abbrev pub IsEmptyIfIdle : PoolAccount → Type 0
+IsEmptyIfIdle v = v.parts ≡ 0 → v ≡ account 0 [] [] []
 
 abbrev pub IdleIsEmpty : List PoolAccount → Type 0
-IdleIsEmpty accounts = (port : ℕ) (v : PoolAccount) → get_elem? accounts port ≡ some v → IsIdle v
+IdleIsEmpty accounts = (port : ℕ) (v : PoolAccount) → get_elem? accounts port ≡ some v
+    → IsEmptyIfIdle v
 
 -- What was pushed is what was taken and what the pool holds, however tasks are weighed.
 abbrev pub IsBalanced : List Task → List PoolAccount → Type 0
@@ -42,10 +43,10 @@ IsBalanced tasks accounts =
     × IdleIsEmpty accounts
 
 -- What an account says of the tasks in the pool: with all parts, they are those pushed and not taken.
-pub record Knows (v : PoolAccount) (tasks : List Task) : Type 0 where
+pub record AccountsFor (v : PoolAccount) (tasks : List Task) : Type 0 where
   pub bound : v.parts ≤ all_parts
   pub whole : v.parts ≡ all_parts → (h : Task → ℕ) → weigh h v.pushed ≡ gone h v + weigh h tasks
 
 -- What an account says where the tasks in the pool are not named.
-abbrev pub KnowsSome : PoolAccount → Type 0
-KnowsSome v = (tasks : List Task) × Knows v tasks
+abbrev pub AccountsForSome : PoolAccount → Type 0
+AccountsForSome v = (tasks : List Task) × AccountsFor v tasks

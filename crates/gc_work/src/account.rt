@@ -63,11 +63,11 @@ pub(crate) struct Pops;
 
 impl Outcome<Task, PoolAccount> for Pops {
     ghost use Rattle.std.specs.Prelude.{◌≡◌, ◌++◌, []};
-    ghost use Rattle.gc_work.specs.PoolRule.{account, Knows};
+    ghost use Rattle.gc_work.specs.PoolRule.{account, AccountsFor};
 
     ghost then = { λ v tasks w. w ≡ account v.parts v.pushed (v.popped ++ tasks) v.stolen };
 
-    ghost empty = { λ v. Knows v [] };
+    ghost empty = { λ v. AccountsFor v [] };
 }
 
 pub(crate) struct Steals;
@@ -84,16 +84,16 @@ pub(crate) struct Hands;
 
 impl Outcome<Task, PoolAccount> for Hands {
     ghost use Rattle.std.specs.Prelude.{◌≡◌, ◌++◌, []};
-    ghost use Rattle.gc_work.specs.PoolRule.{account, Knows, KnowsSome};
+    ghost use Rattle.gc_work.specs.PoolRule.{account, AccountsFor, AccountsForSome};
 
     ghost then = { λ v tasks w. (w ≡ account v.parts v.pushed (v.popped ++ tasks) v.stolen)
-        × KnowsSome w };
+        × AccountsForSome w };
 
-    ghost empty = { λ v. Knows v [] };
+    ghost empty = { λ v. AccountsFor v [] };
 }
 
 impl Lesson<Task, PoolAccount> for Hands {
-    ghost use Rattle.gc_work.specs.PoolRule.{Knows};
+    ghost use Rattle.gc_work.specs.PoolRule.{AccountsFor};
 
-    ghost fact = { Knows };
+    ghost fact = { AccountsFor };
 }

@@ -3,7 +3,7 @@
 ghost use Rattle.std.specs.Prelude.{◌≡◌, All, IfOk, IfSome};
 ghost use Rattle.gc_half.specs.Garbling.{IsGarbled};
 ghost use Rattle.gc_store.specs.Account.{IsForStore};
-ghost use Rattle.gc_work.specs.Places.{IsReady};
+ghost use Rattle.gc_work.specs.Places.{IsPlacedWorker};
 ghost use Rattle.gc_work.specs.WorkFault.{JudgesWorkers};
 
 use crate::fault::{WorkFault, check_workers};
@@ -171,7 +171,7 @@ fn run_all<
     H: Gatehouse + Sync,
     R: Threads + Wait + Sync,
 >(shared: &Shared<'_, L, A, H, R>, workers: &mut [Worker<L, A>])
-    requires { All (λ w. IsReady shared.now.pools.now w) workers.old }
+    requires { All (λ w. IsPlacedWorker shared.now.pools.now w) workers.old }
 {
     let count = workers.len().max(1);
     thread::for_each_mut(
@@ -179,7 +179,7 @@ fn run_all<
         workers,
         count,
         &|_i: usize, worker: &mut Worker<L, A>|
-            requires { IsReady shared.now.pools.now worker.now }
+            requires { IsPlacedWorker shared.now.pools.now worker.now }
         { work(shared, worker) },
     );
 }

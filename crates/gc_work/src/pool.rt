@@ -1,7 +1,7 @@
 //! Pools of tasks: one owner fills a pool and takes from its back, and thieves take from its front.
 
 ghost use Rattle.std.specs.Prelude.{◌≡◌, ◌+◌, ◌<◌, ◌≤◌, [], ◌∷◌, ◌++◌, codes, length, IfOk, IfErr, MatchResult, MatchOption, IfNone};
-ghost use Rattle.gc_work.specs.Pool.{stolen_by, AllOf, IsConserved, IsTaken};
+ghost use Rattle.gc_work.specs.Pool.{stolen_by, AllOf, IsConserved, IsTakenFrom};
 
 use crate::account::{Hands, OnePart, PoolAccount, PoolRule, Pops, Pushes, Steals};
 use crossbeam_deque::{Pass, Steal, Stealer, Worker};
@@ -257,7 +257,7 @@ impl<A: Allocator> Gathered<A> {
     /// The tasks pushed are, as counts, those popped, those stolen and those left, also now.
     pub fn next(&mut self) -> Option<Task>
         ensures left { MatchOption result (self.old.left ≡ [])
-            (λ t. IsTaken t self.old.left self.new.left) }
+            (λ t. IsTakenFrom t self.old.left self.new.left) }
         ensures popped { MatchOption result (self.new ≡ self.old) (λ t. self.new ≡ record self.old {
           popped = self.old.popped ++ t ∷ [];
           left = self.new.left;

@@ -1,7 +1,7 @@
 //! One worker: where its tasks come from, and where they go when they are sealed.
 
 ghost use Rattle.std.specs.Prelude.{◌≡◌};
-ghost use Rattle.gc_work.specs.Places.{IsReady};
+ghost use Rattle.gc_work.specs.Places.{IsPlacedWorker};
 
 use crate::pool::{NoRoom, Owner, TaskPool};
 use crate::steal::{PlacedThief, steal_any};
@@ -74,9 +74,9 @@ fn next_task<L: Ledger, A: Allocator, H, R: Wait>(
     pool: &TaskPool<A>,
     worker: &mut Worker<L, A>,
 ) -> Option<Task>
-    requires ready { IsReady shared.now.pools.now worker.old }
+    requires ready { IsPlacedWorker shared.now.pools.now worker.old }
     requires own { worker.old.owner.pool ≡ pool.now }
-    ensures ready { IsReady shared.now.pools.now worker.new }
+    ensures ready { IsPlacedWorker shared.now.pools.now worker.new }
     ensures own { worker.new.owner.pool ≡ worker.old.owner.pool }
 {
     if let Some(task) = own_task(pool, worker) {
@@ -155,7 +155,7 @@ pub(crate) fn work<L: Ledger, A: Allocator, H: Gatehouse, R: Wait>(
     shared: &Shared<'_, L, A, H, R>,
     worker: &mut Worker<L, A>,
 )
-    requires { IsReady shared.now.pools.now worker.old }
+    requires { IsPlacedWorker shared.now.pools.now worker.old }
 {
     let (rt, store) = (shared.rt, shared.store);
     let Some(pool) = shared.pools.get(worker.place) else {

@@ -2,7 +2,7 @@
 
 ghost use Rattle.std.specs.Prelude.{◌≡◌, ◌++◌, ◌∷◌, [], All, IfOk, OnOk, length};
 ghost use Rattle.gc_work.specs.Pool.{AllOf};
-ghost use Rattle.gc_work.specs.Places.{AreOwners, AreRows, IsReady};
+ghost use Rattle.gc_work.specs.Places.{AreOwners, AreAllPlaced, IsPlacedWorker};
 
 use crate::pool::{Owner, TaskPool, Thief};
 use crate::steal::PlacedThief;
@@ -41,9 +41,9 @@ fn spread<A: Allocator>(
     pool: &TaskPool<A>,
     pools: &[TaskPool<A>],
 ) -> Result<(), Memory>
-    requires rows { AreRows pools.now rows.old }
+    requires rows { AreAllPlaced pools.now rows.old }
     requires thieves { AllOf pool.now thieves.items }
-    ensures { OnOk result (AreRows (pools.now ++ pool.now ∷ []) rows.new) }
+    ensures { OnOk result (AreAllPlaced (pools.now ++ pool.now ∷ []) rows.new) }
 {
     let target = pools.len();
     let mut place = 0;
@@ -64,7 +64,7 @@ fn empty_rows<A: Allocator + Copy>(
     alloc: A,
     workers: u32,
 ) -> Result<Vec<Vec<PlacedThief<A>, A>, A>, Memory>
-    ensures { IfOk result (λ rows. AreRows [] rows.items) }
+    ensures { IfOk result (λ rows. AreAllPlaced [] rows.items) }
 {
     let mut rows = Vec::with_capacity(alloc, workers as usize)?;
     for _i in 0..workers {
@@ -80,7 +80,7 @@ fn open_pools<A: Allocator + Copy>(
     capacity: u32,
 ) -> Result<Opened<A>, Memory>
     ensures owners { IfOk result (λ o. AreOwners o.pools.items o.owners.items) }
-    ensures rows { IfOk result (λ o. AreRows o.pools.items o.rows.items) }
+    ensures rows { IfOk result (λ o. AreAllPlaced o.pools.items o.rows.items) }
 {
     let mut pools = Vec::with_capacity(alloc, workers as usize)?;
     let mut owners = Vec::with_capacity(alloc, workers as usize)?;
@@ -107,8 +107,8 @@ fn workers_of<L: Ledger, A: Allocator + Copy>(
     opened: Opened<A>,
 ) -> Result<Workers<L, A>, Memory>
     requires owners { AreOwners opened.pools.items opened.owners.items }
-    requires rows { AreRows opened.pools.items opened.rows.items }
-    ensures { IfOk result (λ r. All (λ w. IsReady r.pools.items w) r.workers.items) }
+    requires rows { AreAllPlaced opened.pools.items opened.rows.items }
+    ensures { IfOk result (λ r. All (λ w. IsPlacedWorker r.pools.items w) r.workers.items) }
 {
     let Opened {
         pools,
@@ -149,7 +149,7 @@ pub(crate) fn open_workers<L: Ledger, A: Allocator + Copy>(
     count: u32,
     capacity: u32,
 ) -> Result<Workers<L, A>, Memory>
-    ensures { IfOk result (λ r. All (λ w. IsReady r.pools.items w) r.workers.items) }
+    ensures { IfOk result (λ r. All (λ w. IsPlacedWorker r.pools.items w) r.workers.items) }
 {
     let opened = open_pools(alloc, count, capacity)?;
     workers_of(alloc, store, opened)

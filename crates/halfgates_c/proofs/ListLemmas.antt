@@ -6,7 +6,7 @@ use Rattle.gc_job.specs.Job.{JobParts}
 use Rattle.gc_kept.specs.Garbling.{GarblingWith}
 use Rattle.gc_kept.specs.declared.held.Held.{Held}
 use Rattle.gc_kept.specs.declared.held.Held.TheVariants.{Circuit, Garbling, Job, Garbler, Evaluator}
-use Rattle.halfgates_c.specs.Holding.{OfEach, OfGarbling, OfJob}
+use Rattle.halfgates_c.specs.Holding.{OfHandles, OfGarbling, OfJob}
 use Rattle.halfgates_c.specs.Borrowing.{handle_of}
 
 -- What is borrowed is what the handles hold.
@@ -58,35 +58,36 @@ module _ {X : Type 0} (OfOne : Option Held → (code : ℤ) → (X → Type 0) �
   -- A handle that holds no such thing gives the code of the list, after some that do.
   first_without : (things : List X) (held : Option Held) (others : List (Option Held)) (code : ℤ)
       → OfOne held code (λ it. ⊥)
-      → OfEach OfOne (map (λ it. Some (held_in it)) things ++ held ∷ others) code (λ its. ⊥)
+      → OfHandles OfOne (map (λ it. Some (held_in it)) things ++ held ∷ others) code (λ its. ⊥)
   first_without [] held others code lacks = is.so_too held code _ _ (λ it. absurd) lacks
   first_without (it ∷ things) held others code lacks =
       is.of_it it code _ (first_without things held others code lacks)
 
   -- It does so whatever a call says of such things, as does missing memory.
   each_of : (held : List (Option Held)) (code : ℤ) (P : List X → Type 0)
-      → OfEach OfOne held code (λ its. ⊥) → OfEach OfOne held code P
+      → OfHandles OfOne held code (λ its. ⊥) → OfHandles OfOne held code P
   each_of [] code P lacks = absurd lacks
   each_of (held ∷ others) code P lacks =
       is.so_too held code _ _ (λ it. each_of others code (λ its. P (it ∷ its))) lacks
 
   pub none_of : (held : List (Option Held)) (code : ℤ) (P : List X → Type 0)
-      → (code ≡ pos 62) ⊎ OfEach OfOne held code (λ its. ⊥)
-      → (code ≡ pos 62) ⊎ OfEach OfOne held code P
+      → (code ≡ pos 62) ⊎ OfHandles OfOne held code (λ its. ⊥)
+      → (code ≡ pos 62) ⊎ OfHandles OfOne held code P
   none_of held code P (inl want) = inl want
   none_of held code P (inr lacks) = inr (each_of held code P lacks)
 
   -- All hold such things.
   pub all_of : (things : List X) (code : ℤ) (P : List X → Type 0) → P things
-      → OfEach OfOne (map (λ it. Some (held_in it)) things) code P
+      → OfHandles OfOne (map (λ it. Some (held_in it)) things) code P
   all_of [] code P so = so
   all_of (it ∷ things) code P so = is.of_it it code _ (all_of things code (λ its. P (it ∷ its)) so)
 
   -- One in a list holds none.
-  pub until : {Y T : Type 0} (ys : List Y) (ts : List T) (value_in : Y → Option Held) (thing_in : T → X)
+  pub until : {Y T : Type 0} (ys : List Y) (ts : List T) (value_in : Y → Option Held) (thing_in : T
+      → X)
       (i : ℕ) (y : Y) (code : ℤ) → i < length ys → y ≡ get_or ys i y
       → map value_in (take i ys) ≡ map (λ it. Some (held_in it)) (map thing_in ts)
-      → OfOne (value_in y) code (λ it. ⊥) → OfEach OfOne (map value_in ys) code (λ its. ⊥)
+      → OfOne (value_in y) code (λ it. ⊥) → OfHandles OfOne (map value_in ys) code (λ its. ⊥)
   until ys ts value_in thing_in i y code within at before lacks =
       let split : map value_in ys
       ≡ map value_in (take i ys) ++ value_in y ∷ map value_in (drop (i + 1) ys) =

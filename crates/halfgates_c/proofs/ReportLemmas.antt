@@ -5,7 +5,7 @@ use Rattle.gc_kept.specs.declared.fault.KeptFault.{KeptFault}
 use Rattle.gc_kept.specs.declared.held.Held.{Held}
 use Rattle.gc_kept.specs.declared.held.Held.TheVariants.{Garbling}
 use Rattle.gc_kept.specs.Fault.{code_of}
-use Rattle.halfgates_c.specs.Answers.{AnswersWritten, IsReported}
+use Rattle.halfgates_c.specs.ReturnsCode.{ReturnsCodeAndSize, IsReported}
 use Rattle.halfgates_c.specs.Holding.{OfGarbling}
 
 -- The code and the number that are reported say what the outcome is.
@@ -14,7 +14,7 @@ pub reported : (outcome : Result ℕ KeptFault) (code : ℤ) (written : ℕ)
     → IfErr outcome (λ fault. (code ≡ pos (code_of fault)) × IsReported written fault)
     → OnErr outcome (code ≢ pos 0)
     → (P : ℕ → Type 0) (Q : KeptFault → Type 0) → IfOk outcome P → IfErr outcome Q
-    → AnswersWritten code written P Q
+    → ReturnsCodeAndSize code written P Q
 reported (Ok size) code written done fault some P Q so lacks = record {
   done = λ _. subst P (sym done.1) so;
   fault = λ other. absurd (other done.0);

@@ -11,14 +11,14 @@ use Rattle.gc_kept.specs.declared.fault.KeptFault.TheVariants.{Circuit, Memory}
 use Rattle.halfgates_c.specs.declared.locate.TheConstants.{NONE}
 use Rattle.halfgates_c.specs.declared.locate.Place.{Place}
 use Rattle.halfgates_c.specs.declared.slot.Slot.{Slot}
-use Rattle.halfgates_c.specs.Holding.{IsKept}
+use Rattle.halfgates_c.specs.Holding.{IsHeldCircuit}
 
 -- C's pointer is to a handle of the lawful circuit whose canonical text this is, with its digest or without.
 pub record HoldsCanonical (text : List ℕ) (has_digest : Bool) (slot : Slot) : Type 0 where
   pub circuit : Netlist
   pub lawful : IsLawful circuit
   pub canonical : canonical_text circuit ≡ text
-  pub holds : IsKept slot.held circuit has_digest
+  pub holds : IsHeldCircuit slot.held circuit has_digest
 
 -- The place is that of a fault in this gate that is about this wire. It has no line and no column.
 pub record IsArraysPlace (e : ReadFault) (gate wire : Option ℕ) (p : Place) : Type 0 where

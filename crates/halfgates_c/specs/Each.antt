@@ -3,7 +3,7 @@ use Rattle.std.specs.Prelude.{◌≡◌, ◌≢◌, ℕ, ℤ, List, Result, Ok, 
 use Rattle.gc_job.specs.Job.{JobParts}
 use Rattle.gc_kept.specs.declared.fault.KeptFault.{KeptFault}
 use Rattle.gc_kept.specs.declared.fault.KeptFault.TheVariants.{BadArgument}
-use Rattle.gc_kept.specs.Each.{AreOutcomes, HasListFault}
+use Rattle.gc_kept.specs.Each.{AreOutcomes, HasOutputsRoomFault}
 use Rattle.gc_kept.specs.Fault.{code_of}
 
 -- The code of an outcome: 0, or that of its fault.
@@ -20,4 +20,4 @@ pub record AreCodes (jobs : List JobParts) (old new : List ℕ) (codes : List �
 -- The fault of a list of jobs, which needs a code for each.
 abbrev pub HasEachFault : List JobParts → (room codes : ℕ) → KeptFault → Type 0
 HasEachFault jobs room codes BadArgument = codes ≢ length jobs
-HasEachFault jobs room codes fault = HasListFault jobs room fault
+HasEachFault jobs room codes fault = HasOutputsRoomFault jobs room fault

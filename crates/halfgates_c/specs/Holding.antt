@@ -66,19 +66,19 @@ OfEvaluator (Some (Evaluator evaluator)) code P = P evaluator
 
 -- The code is what a call on a list of things says of them, or that of the first handle in the list that holds none.
 -- What is said of one handle is `OfGarbling` or `OfJob`.
-abbrev pub OfEach : {X : Type 0} → (Option Held → (code : ℤ) → (X → Type 0) → Type 0)
+abbrev pub OfHandles : {X : Type 0} → (Option Held → (code : ℤ) → (X → Type 0) → Type 0)
     → List (Option Held) → (code : ℤ) → (List X → Type 0) → Type 0
-OfEach OfOne [] code P = P []
-OfEach OfOne (held ∷ others) code P =
-    OfOne held code (λ it. OfEach OfOne others code (λ things. P (it ∷ things)))
+OfHandles OfOne [] code P = P []
+OfHandles OfOne (held ∷ others) code P =
+    OfOne held code (λ it. OfHandles OfOne others code (λ things. P (it ∷ things)))
 
 -- The same of garblings, or 62 where memory is missing for the list,
 abbrev pub OfGarblings : List (Option Held) → (code : ℤ) → (List GarblingWith → Type 0) → Type 0
-OfGarblings held code P = (code ≡ pos 62) ⊎ OfEach OfGarbling held code P
+OfGarblings held code P = (code ≡ pos 62) ⊎ OfHandles OfGarbling held code P
 
 -- and of jobs.
 abbrev pub OfJobs : List (Option Held) → (code : ℤ) → (List JobParts → Type 0) → Type 0
-OfJobs held code P = (code ≡ pos 62) ⊎ OfEach OfJob held code P
+OfJobs held code P = (code ≡ pos 62) ⊎ OfHandles OfJob held code P
 
 -- A handle in the list holds no garbling, or memory is missing,
 abbrev pub OfNoGarblings : List (Option Held) → (code : ℤ) → Type 0
@@ -89,18 +89,19 @@ abbrev pub OfNoJobs : List (Option Held) → (code : ℤ) → Type 0
 OfNoJobs held code = OfJobs held code (λ jobs. ⊥)
 
 -- The circuit that is held, if one is.
-abbrev pub circuit_of : Option Held → Option Netlist
-circuit_of None = None
-circuit_of (Some (Circuit circuit)) = Some circuit.netlist
-circuit_of (Some (Garbling garbling)) = None
-circuit_of (Some (Job job)) = None
-circuit_of (Some (Garbler garbler)) = None
-circuit_of (Some (Evaluator evaluator)) = None
+abbrev pub held_circuit : Option Held → Option Netlist
+held_circuit None = None
+held_circuit (Some (Circuit circuit)) = Some circuit.netlist
+held_circuit (Some (Garbling garbling)) = None
+held_circuit (Some (Job job)) = None
+held_circuit (Some (Garbler garbler)) = None
+held_circuit (Some (Evaluator evaluator)) = None
 
 -- C's pointer is to a handle that holds this.
 abbrev pub Holds : Slot → Held → Type 0
 Holds slot held = slot.held ≡ Some held
 
 -- What is held is this circuit, with its digest or without.
-abbrev pub IsKept : Option Held → Netlist → (has_digest : Bool) → Type 0
-IsKept held c has_digest = held ≡ Some (Circuit (record { netlist = c; has_digest = has_digest }))
+abbrev pub IsHeldCircuit : Option Held → Netlist → (has_digest : Bool) → Type 0
+IsHeldCircuit held c has_digest = held ≡ Some (Circuit (record
+    { netlist = c; has_digest = has_digest }))

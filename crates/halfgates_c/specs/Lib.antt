@@ -1,4 +1,4 @@
-pub mod Answers
+pub mod ReturnsCode
 pub mod Arrays
 pub mod Behind
 pub mod Each

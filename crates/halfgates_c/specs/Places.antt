@@ -12,10 +12,10 @@ use Rattle.halfgates_c.specs.declared.locate.TheConstants.{NONE}
 use Rattle.halfgates_c.specs.declared.locate.Place.{Place}
 
 -- The place says what is found: no fault, or the fault with its line, column, gate and wire.
-abbrev pub IsPlaceOf : Option Located → Place → Type 0
-IsPlaceOf None p =
+abbrev pub IsFaultPlace : Option Located → Place → Type 0
+IsFaultPlace None p =
     (p.fault ≡ pos 0) × (p.line ≡ 0) × (p.column ≡ 0) × (p.gate ≡ NONE) × (p.wire ≡ NONE)
-IsPlaceOf (Some l) p =
+IsFaultPlace (Some l) p =
     (p.fault ≡ pos (code_of l.fault)) × (p.line ≡ l.line) × (p.column ≡ l.column)
     × (p.gate ≡ unwrap_or l.gate NONE) × (p.wire ≡ unwrap_or l.wire NONE)
 
@@ -24,7 +24,7 @@ pub record IsPlaceIn (text : List ℕ) (p : Place) : Type 0 where
   pub found : Option Located
   pub meaning : MatchOption found ((c : Netlist) × IsLawful c × Spells text c)
       (λ l. IsLocated text l.fault l.line l.column l.gate l.wire)
-  pub place : IsPlaceOf found p
+  pub place : IsFaultPlace found p
 
 -- Memory is missing.
 abbrev pub IsTextMemory : KeptFault → Type 0

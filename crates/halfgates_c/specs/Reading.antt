@@ -12,14 +12,14 @@ use Rattle.gc_job.specs.Job.{JobParts}
 use Rattle.gc_kept.specs.Job.{IsBoundJob}
 use Rattle.gc_kept.specs.declared.held.Held.TheVariants.{Circuit, Garbling, Job}
 use Rattle.halfgates_c.specs.declared.slot.Slot.{Slot}
-use Rattle.halfgates_c.specs.Holding.{Holds, IsKept}
+use Rattle.halfgates_c.specs.Holding.{Holds, IsHeldCircuit}
 
 -- C's pointer is to a handle of the lawful circuit that the text spells, with its digest or without.
 pub record HoldsCircuit (text : List ℕ) (has_digest : Bool) (slot : Slot) : Type 0 where
   pub circuit : Netlist
   pub lawful : IsLawful circuit
   pub spelled : Spells text circuit
-  pub holds : IsKept slot.held circuit has_digest
+  pub holds : IsHeldCircuit slot.held circuit has_digest
 
 -- C's pointer is to a handle of this circuit, which has a digest exactly where this one has.
 abbrev pub HoldsShared : CircuitWith → Slot → Type 0
@@ -29,7 +29,7 @@ HoldsShared c slot = Holds slot (Circuit c)
 pub record HoldsOrdered (c : CircuitWith) (slot : Slot) : Type 0 where
   pub ordered : Netlist
   pub order : IsOrdered c.netlist ordered
-  pub holds : IsKept slot.held ordered c.has_digest
+  pub holds : IsHeldCircuit slot.held ordered c.has_digest
 
 -- C's pointer is to a handle of the garbling of the circuit under the seed.
 pub record HoldsGarbling (c : CircuitWith) (seed : List ℕ) (slot : Slot) : Type 0 where

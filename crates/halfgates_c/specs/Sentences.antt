@@ -11,8 +11,8 @@ abbrev pub filled : List ℕ → List ℕ
 filled sentence = sentence ++ replicate (256 - length sentence) 0
 
 -- The bytes are a sentence on what is found, and empty where no fault is.
-abbrev pub Says : Option Located → List ℕ → Type 0
-Says found bytes =
+abbrev pub IsSentenceOn : Option Located → List ℕ → Type 0
+IsSentenceOn found bytes =
     (sentence : List ℕ) × (bytes ≡ filled sentence)
     × MatchOption found (sentence ≡ []) (λ l. IsSentence l sentence)
 
@@ -21,4 +21,4 @@ pub record IsExplained (text bytes : List ℕ) : Type 0 where
   pub found : Option Located
   pub meaning : MatchOption found ((c : Netlist) × IsLawful c × Spells text c)
       (λ l. IsLocated text l.fault l.line l.column l.gate l.wire)
-  pub says : Says found bytes
+  pub says : IsSentenceOn found bytes

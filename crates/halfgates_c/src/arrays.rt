@@ -6,7 +6,7 @@ ghost use denote.RawPtr.{Testable};
 ghost use Rattle.gc_netlist.specs.Canon.{canonical_text};
 ghost use Rattle.gc_netlist.specs.Circuit.{IsLawful};
 ghost use Rattle.gc_circuit.specs.Arrays.{arrays_text, text_of};
-ghost use Rattle.halfgates_c.specs.Answers.{Answers};
+ghost use Rattle.halfgates_c.specs.ReturnsCode.{ReturnsCode};
 ghost use Rattle.halfgates_c.specs.Arrays.{HoldsCanonical, IsArraysPlace, HasArraysFault};
 
 use crate::circuit::hand_out;
@@ -63,7 +63,7 @@ pub extern "C" fn halfgates_circuit_from_gates(
 ) -> i32
     requires circuit { Testable (as_mut_ptr circuit) }
     ensures answers { let text = arrays_text wires input_widths.now output_widths.now gates.now in
-        Answers result (HoldsCanonical text true circuit.new)
+        ReturnsCode result (HoldsCanonical text true circuit.new)
         (HasArraysFault text place.old place.new) }
     ensures kept { result ≢ pos 0 → circuit.new ≡ circuit.old }
     ensures unplaced { result ≡ pos 0 → place.new ≡ place.old }
@@ -96,7 +96,7 @@ pub extern "C" fn halfgates_circuit_from_gates_without_digest(
 ) -> i32
     requires circuit { Testable (as_mut_ptr circuit) }
     ensures answers { let text = arrays_text wires input_widths.now output_widths.now gates.now in
-        Answers result (HoldsCanonical text false circuit.new)
+        ReturnsCode result (HoldsCanonical text false circuit.new)
         (HasArraysFault text place.old place.new) }
     ensures kept { result ≢ pos 0 → circuit.new ≡ circuit.old }
     ensures unplaced { result ≡ pos 0 → place.new ≡ place.old }

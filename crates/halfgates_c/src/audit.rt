@@ -4,7 +4,7 @@ ghost use Rattle.std.specs.Prelude.{◌≡◌, ◌≢◌, OnOk, OnErr, IfErr, po
 ghost use Rattle.core.specs.Ptr.{as_mut_ptr};
 ghost use denote.RawPtr.{Testable};
 ghost use Rattle.gc_kept.specs.Audit.{HasGarbledAuditFault};
-ghost use Rattle.halfgates_c.specs.Answers.{Answers};
+ghost use Rattle.halfgates_c.specs.ReturnsCode.{ReturnsCode};
 ghost use Rattle.halfgates_c.specs.Holding.{OfGarbling};
 ghost use Rattle.halfgates_c.specs.Reports.{AreRowFields, AreRowFlags, IsReport, IsReportOn, version_number};
 
@@ -138,7 +138,7 @@ pub extern "C" fn halfgates_audit(
 ) -> i32
     requires report { Testable (as_mut_ptr report) }
     ensures answer { OfGarbling garbling.old.held result (λ g.
-        Answers result (IsReportOn g file.now report.new) (HasGarbledAuditFault g file.now)) }
+        ReturnsCode result (IsReportOn g file.now report.new) (HasGarbledAuditFault g file.now)) }
     ensures back { garbling.new ≡ garbling.old }
     ensures kept { result ≢ pos 0 → report.new ≡ report.old }
 {

@@ -4,7 +4,7 @@ ghost use Rattle.std.specs.Prelude.{◌≡◌, ◌≢◌, IfErr, OnErr, OnOk, le
 ghost use Rattle.core.specs.Ptr.{as_mut_ptr};
 ghost use denote.RawPtr.{Testable};
 ghost use Rattle.halfgates_c.specs.Holding.{OfGarbling};
-ghost use Rattle.halfgates_c.specs.Answers.{Answers};
+ghost use Rattle.halfgates_c.specs.ReturnsCode.{ReturnsCode};
 ghost use Rattle.halfgates_c.specs.LabelsReports.{AreFoundAt, HasNoRoomFor, HasReportFault, IsLabelsReportOn, SaysVerdict};
 
 use crate::code::{NULL_POINTER, code_of};
@@ -99,7 +99,7 @@ pub extern "C" fn halfgates_audit_labels(
 ) -> i32
     requires report { Testable (as_mut_ptr report) }
     ensures answer { OfGarbling garbling.old.held result
-        (λ g. Answers result (IsLabelsReportOn g file.now bits.old bits.new report.new)
+        (λ g. ReturnsCode result (IsLabelsReportOn g file.now bits.old bits.new report.new)
         (HasReportFault g file.now (length bits.old) report.new)) }
     ensures kept { result ≢ pos 0 → bits.new ≡ bits.old }
     ensures unreported { result ≢ pos 0 → result ≢ pos 61 → report.new ≡ report.old }

@@ -4,7 +4,7 @@ ghost use Rattle.std.specs.Prelude.{◌≡◌, ◌≢◌, pos};
 ghost use Rattle.core.specs.Ptr.{as_mut_ptr};
 ghost use denote.RawPtr.{Testable};
 ghost use Rattle.gc_kept.specs.Audit.{HasRowsAuditFault};
-ghost use Rattle.halfgates_c.specs.Answers.{Answers};
+ghost use Rattle.halfgates_c.specs.ReturnsCode.{ReturnsCode};
 ghost use Rattle.halfgates_c.specs.Holding.{OfGarbling};
 ghost use Rattle.halfgates_c.specs.Reports.{IsRowsReport, IsRowsReportOn};
 
@@ -56,7 +56,7 @@ pub extern "C" fn halfgates_audit_rows(
 ) -> i32
     requires report { Testable (as_mut_ptr report) }
     ensures answer { OfGarbling garbling.old.held result (λ g.
-        Answers result (IsRowsReportOn g rows.now decode_bits.now report.new)
+        ReturnsCode result (IsRowsReportOn g rows.now decode_bits.now report.new)
         (HasRowsAuditFault g rows.now decode_bits.now)) }
     ensures back { garbling.new ≡ garbling.old }
     ensures kept { result ≢ pos 0 → report.new ≡ report.old }

@@ -7,8 +7,8 @@ ghost use Rattle.sha2.specs.Sha256.{sha256};
 ghost use Rattle.gc_netlist.specs.Canon.{canonical_text};
 ghost use Rattle.gc_kept.specs.Circuit.{HasCircuitTextFault};
 ghost use Rattle.gc_kept.specs.Plain.{ArePlainOutputs, HasPlainBufferFault};
-ghost use Rattle.halfgates_c.specs.Answers.{Answers};
-ghost use Rattle.halfgates_c.specs.Holding.{IsKept, OfCircuit, OfDigested, OfKept};
+ghost use Rattle.halfgates_c.specs.ReturnsCode.{ReturnsCode};
+ghost use Rattle.halfgates_c.specs.Holding.{IsHeldCircuit, OfCircuit, OfDigested, OfKept};
 ghost use Rattle.halfgates_c.specs.Reading.{HoldsCircuit, HoldsOrdered, HoldsShared};
 ghost use Rattle.halfgates_c.specs.Numbers.{AreNumbers, Copies};
 
@@ -40,7 +40,7 @@ pub(crate) fn hand_out(
     slot: &mut Slot,
 ) -> Result<(), KeptFault>
     requires { IsFalse circuit.has_digest }
-    ensures ok { OnOk result (IsKept slot.new.held circuit.netlist with_digest) }
+    ensures ok { OnOk result (IsHeldCircuit slot.new.held circuit.netlist with_digest) }
     ensures fault { IfErr result (λ fault. fault ≡ KeptFault.Memory) }
     ensures kept { OnErr result (slot.new ≡ slot.old) }
 {
@@ -64,7 +64,7 @@ fn read(alloc: Global, text: &[u8], with_digest: bool, slot: &mut Slot) -> Resul
 #[unsafe(no_mangle)]
 pub extern "C" fn halfgates_circuit_read(alloc: Global, text: &[u8], circuit: &mut Slot) -> i32
     requires circuit { Testable (as_mut_ptr circuit) }
-    ensures answers { Answers result (HoldsCircuit text.now true circuit.new)
+    ensures answers { ReturnsCode result (HoldsCircuit text.now true circuit.new)
         (HasCircuitTextFault text.now) }
     ensures kept { result ≢ pos 0 → circuit.new ≡ circuit.old }
 {
@@ -82,7 +82,7 @@ pub extern "C" fn halfgates_circuit_read_without_digest(
     circuit: &mut Slot,
 ) -> i32
     requires circuit { Testable (as_mut_ptr circuit) }
-    ensures answers { Answers result (HoldsCircuit text.now false circuit.new)
+    ensures answers { ReturnsCode result (HoldsCircuit text.now false circuit.new)
         (HasCircuitTextFault text.now) }
     ensures kept { result ≢ pos 0 → circuit.new ≡ circuit.old }
 {
@@ -95,7 +95,7 @@ pub extern "C" fn halfgates_circuit_read_without_digest(
 /// Takes the digest of what is held, if it is a circuit.
 fn take_digest(held: &mut Held) -> i32
     ensures answer { OfCircuit (Some held.old) result
-        (λ c. (result ≡ pos 0) × IsKept (Some held.new) c true) }
+        (λ c. (result ≡ pos 0) × IsHeldCircuit (Some held.new) c true) }
     ensures kept { result ≢ pos 0 → held.new ≡ held.old }
 {
     match held {
@@ -111,7 +111,7 @@ fn take_digest(held: &mut Held) -> i32
 #[unsafe(no_mangle)]
 pub extern "C" fn halfgates_circuit_take_digest(alloc: Global, circuit: &mut Slot) -> i32
     ensures answer { OfCircuit circuit.old.held result
-        (λ c. (result ≡ pos 0) × IsKept circuit.new.held c true) }
+        (λ c. (result ≡ pos 0) × IsHeldCircuit circuit.new.held c true) }
     ensures kept { result ≢ pos 0 → circuit.new.held ≡ circuit.old.held }
 {
     let Some(mut held) = circuit.take(alloc) else {
@@ -131,7 +131,7 @@ pub extern "C" fn halfgates_circuit_share(
 ) -> i32
     requires other { Testable (as_mut_ptr other) }
     ensures answer { OfKept circuit.old.held result (λ c.
-        Answers result (HoldsShared c other.new) (λ fault. fault ≡ KeptFault.Memory)) }
+        ReturnsCode result (HoldsShared c other.new) (λ fault. fault ≡ KeptFault.Memory)) }
     ensures back { circuit.new ≡ circuit.old }
     ensures kept { result ≢ pos 0 → other.new ≡ other.old }
 {
@@ -153,7 +153,7 @@ pub extern "C" fn halfgates_circuit_order(
 ) -> i32
     requires ordered { Testable (as_mut_ptr ordered) }
     ensures answer { OfKept circuit.old.held result (λ c.
-        Answers result (HoldsOrdered c ordered.new) (λ fault. fault ≡ KeptFault.Memory)) }
+        ReturnsCode result (HoldsOrdered c ordered.new) (λ fault. fault ≡ KeptFault.Memory)) }
     ensures back { circuit.new ≡ circuit.old }
     ensures kept { result ≢ pos 0 → ordered.new ≡ ordered.old }
 {
@@ -283,7 +283,7 @@ pub extern "C" fn halfgates_plain(
     outputs: &mut [u8],
 ) -> i32
     ensures answer { OfCircuit circuit.old.held result (λ c.
-        Answers result (ArePlainOutputs c bits.now outputs.old outputs.new)
+        ReturnsCode result (ArePlainOutputs c bits.now outputs.old outputs.new)
         (HasPlainBufferFault c bits.now (length outputs.old))) }
     ensures back { circuit.new ≡ circuit.old }
     ensures kept { result ≢ pos 0 → outputs.new ≡ outputs.old }

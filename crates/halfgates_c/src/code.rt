@@ -2,7 +2,7 @@
 
 ghost use Rattle.std.specs.Prelude.{◌≡◌, ◌≢◌, pos, OnOk, OnErr, IfOk, IfErr};
 ghost use Rattle.gc_kept.specs.Fault.{code_of};
-ghost use Rattle.halfgates_c.specs.Answers.{IsReported};
+ghost use Rattle.halfgates_c.specs.ReturnsCode.{IsReported};
 
 use gc_kept::KeptFault;
 

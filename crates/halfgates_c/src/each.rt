@@ -2,7 +2,7 @@
 
 ghost use Rattle.std.specs.Prelude.{◌≡◌, ◌≢◌, IfErr, OnErr, OnOk, length, map, pos};
 ghost use Rattle.gc_kept.specs.declared.fault.KeptFault.{KeptFault};
-ghost use Rattle.halfgates_c.specs.Answers.{Answers};
+ghost use Rattle.halfgates_c.specs.ReturnsCode.{ReturnsCode};
 ghost use Rattle.halfgates_c.specs.Each.{AreCodes, HasEachFault, outcome_code};
 ghost use Rattle.halfgates_c.specs.Holding.{OfJobs};
 
@@ -48,7 +48,7 @@ fn evaluate(
 /// Evaluates the jobs that these handles hold.
 fn evaluate_held(alloc: Global, borrows: &[Borrow<Held>], bits: &mut [u8], codes: &mut [i32]) -> i32
     ensures answer { OfJobs (map (λ b. b.value) borrows.now) result (λ jobs.
-        Answers result (AreCodes jobs bits.old bits.new codes.new)
+        ReturnsCode result (AreCodes jobs bits.old bits.new codes.new)
         (HasEachFault jobs (length bits.old) (length codes.old))) }
     ensures bits_kept { result ≢ pos 0 → bits.new ≡ bits.old }
     ensures codes_kept { result ≢ pos 0 → codes.new ≡ codes.old }
@@ -68,7 +68,7 @@ pub extern "C" fn halfgates_evaluate_each(
     codes: &mut [i32],
 ) -> i32
     ensures answer { OfJobs (map (λ h. h.held) jobs.old) result (λ js.
-        Answers result (AreCodes js bits.old bits.new codes.new)
+        ReturnsCode result (AreCodes js bits.old bits.new codes.new)
         (HasEachFault js (length bits.old) (length codes.old))) }
     ensures back { jobs.new ≡ jobs.old }
     ensures bits_kept { result ≢ pos 0 → bits.new ≡ bits.old }

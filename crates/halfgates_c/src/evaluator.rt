@@ -4,7 +4,7 @@ ghost use Rattle.std.specs.Prelude.{◌≡◌, ◌≢◌, Some, OnOk, OnErr, IfE
 ghost use Rattle.core.specs.Ptr.{as_mut_ptr};
 ghost use denote.RawPtr.{Testable};
 ghost use Rattle.gc_kept.specs.Evaluator.{HasBeginFault, HasFeedFault, AreFoundLabels, HasFoundFault};
-ghost use Rattle.halfgates_c.specs.Answers.{Answers};
+ghost use Rattle.halfgates_c.specs.ReturnsCode.{ReturnsCode};
 ghost use Rattle.halfgates_c.specs.Holding.{OfCircuit, OfEvaluator};
 ghost use Rattle.halfgates_c.specs.InProgress.{HoldsBegunOn, HoldsFed};
 
@@ -50,7 +50,7 @@ pub extern "C" fn halfgates_evaluator_begin(
 ) -> i32
     requires evaluator { Testable (as_mut_ptr evaluator) }
     ensures answer { OfCircuit circuit.old.held result (λ c.
-        Answers result (HoldsBegunOn c first labels.now evaluator.new)
+        ReturnsCode result (HoldsBegunOn c first labels.now evaluator.new)
         (HasBeginFault c first labels.now)) }
     ensures back { circuit.new ≡ circuit.old }
     ensures kept { result ≢ pos 0 → evaluator.new ≡ evaluator.old }
@@ -71,7 +71,7 @@ pub extern "C" fn halfgates_evaluator_free(evaluator: Slot) {
 
 /// Uses the whole row pairs in these bytes, if what is held is an evaluator.
 fn feed_to(held: &mut Held, rows: &[u8], taken: &mut usize) -> i32
-    ensures answer { OfEvaluator (Some held.old) result (λ e. Answers result
+    ensures answer { OfEvaluator (Some held.old) result (λ e. ReturnsCode result
         (HoldsFed e (Some held.new) rows.now taken.new)
         (HasFeedFault e (length rows.now))) }
     ensures kept { result ≢ pos 0 → held.new ≡ held.old }
@@ -93,7 +93,7 @@ pub extern "C" fn halfgates_evaluator_feed(
 ) -> i32
     requires taken { Testable (as_mut_ptr taken) }
     ensures answer { OfEvaluator evaluator.old.held result (λ e.
-        Answers result (HoldsFed e evaluator.new.held rows.now taken.new)
+        ReturnsCode result (HoldsFed e evaluator.new.held rows.now taken.new)
         (HasFeedFault e (length rows.now))) }
     ensures kept { result ≢ pos 0 → evaluator.new.held ≡ evaluator.old.held }
     ensures unreported { result ≢ pos 0 → taken.new ≡ taken.old }
@@ -116,7 +116,7 @@ pub extern "C" fn halfgates_evaluator_output_labels(
     labels: &mut [u8],
 ) -> i32
     ensures answer { OfEvaluator evaluator.old.held result (λ e.
-        Answers result (AreFoundLabels e labels.old labels.new)
+        ReturnsCode result (AreFoundLabels e labels.old labels.new)
         (HasFoundFault e (length labels.old))) }
     ensures back { evaluator.new ≡ evaluator.old }
     ensures kept { result ≢ pos 0 → labels.new ≡ labels.old }

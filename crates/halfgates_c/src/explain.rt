@@ -3,9 +3,9 @@
 ghost use Rattle.std.specs.Prelude.{◌≡◌, ◌≢◌, ◌≤◌, OnOk, OnErr, IfErr, pos, length};
 ghost use Rattle.core.specs.Ptr.{as_mut_ptr};
 ghost use denote.RawPtr.{Testable};
-ghost use Rattle.halfgates_c.specs.Answers.{Answers};
+ghost use Rattle.halfgates_c.specs.ReturnsCode.{ReturnsCode};
 ghost use Rattle.halfgates_c.specs.Places.{IsTextMemory};
-ghost use Rattle.halfgates_c.specs.Sentences.{filled, IsExplained, Says};
+ghost use Rattle.halfgates_c.specs.Sentences.{filled, IsExplained, IsSentenceOn};
 
 use crate::code::{NULL_POINTER, code_of};
 use crate::null::is_null;
@@ -33,7 +33,7 @@ impl Sentence {
 
     /// The sentence on the first fault of a text, which is here, or none.
     fn on(text: &[u8], found: Option<Located>) -> Sentence
-        ensures { Says found result.text }
+        ensures { IsSentenceOn found result.text }
     {
         match found {
             Some(located) => Sentence::of(sentence_of(text, &located).as_bytes()),
@@ -61,7 +61,7 @@ fn explain(alloc: Global, text: &[u8], sentence: &mut Sentence) -> Result<(), Ke
 #[unsafe(no_mangle)]
 pub extern "C" fn halfgates_explain(alloc: Global, text: &[u8], sentence: &mut Sentence) -> i32
     requires sentence { Testable (as_mut_ptr sentence) }
-    ensures answers { Answers result (IsExplained text.now sentence.new.text) IsTextMemory }
+    ensures answers { ReturnsCode result (IsExplained text.now sentence.new.text) IsTextMemory }
     ensures kept { result ≢ pos 0 → sentence.new ≡ sentence.old }
 {
     if is_null(sentence) {

@@ -6,10 +6,10 @@ ghost use denote.RawPtr.{Testable};
 ghost use Rattle.gc_netlist.specs.Canon.{canonical_text};
 ghost use Rattle.gc_file.specs.Honest.{IsFileSize};
 ghost use Rattle.gc_kept.specs.Version.{version_of};
-ghost use Rattle.gc_kept.specs.Files.{IsDealtAt, IsDealtFrom, IsGarbledAt, IsWholeFileAt, HasDealtFault, HasDealtFaultFrom, HasFileFault, HasWriteFault};
+ghost use Rattle.gc_kept.specs.Files.{IsDealtAt, IsDealtFrom, IsGarbledAt, IsWholeFileAt, HasDealtFault, HasDealtFaultFrom, HasGarbledWriteFault, HasWriteFault};
 ghost use Rattle.gc_kept.specs.Labels.{IsReceivedAt, HasReceivedFault};
-ghost use Rattle.halfgates_c.specs.Answers.{AnswersWritten};
-ghost use Rattle.halfgates_c.specs.Holding.{OfCircuit, OfGarbling, circuit_of};
+ghost use Rattle.halfgates_c.specs.ReturnsCode.{ReturnsCodeAndSize};
+ghost use Rattle.halfgates_c.specs.Holding.{OfCircuit, OfGarbling, held_circuit};
 
 use crate::code::{BAD_ARGUMENT, NULL_POINTER, report};
 use crate::handle::{Handle, on_held};
@@ -27,7 +27,8 @@ pub extern "C" fn halfgates_circuit_text(
 ) -> i32
     requires written { Testable (as_mut_ptr written) }
     ensures answer { OfCircuit circuit.old.held result (λ c.
-        AnswersWritten result written.new (IsWholeFileAt (canonical_text c) buffer.old buffer.new)
+        ReturnsCodeAndSize result written.new (IsWholeFileAt (canonical_text c) buffer.old
+        buffer.new)
         (HasWriteFault (canonical_text c) (length buffer.old))) }
     ensures back { circuit.new ≡ circuit.old }
     ensures kept { result ≢ pos 0 → buffer.new ≡ buffer.old }
@@ -44,7 +45,7 @@ pub extern "C" fn halfgates_circuit_text(
 /// How many bytes the garbled file of a version has; 0 for a bad argument.
 #[unsafe(no_mangle)]
 pub extern "C" fn halfgates_garbled_size(circuit: &mut Handle, version: u32) -> u64
-    ensures size { MatchOption (circuit_of circuit.old.held) (result ≡ 0) (λ c.
+    ensures size { MatchOption (held_circuit circuit.old.held) (result ≡ 0) (λ c.
         MatchOption (version_of version) (result ≡ 0) (λ v. IsFileSize v c result)) }
     ensures back { circuit.new ≡ circuit.old }
 {
@@ -64,9 +65,9 @@ struct Versioned<'a> {
 /// Writes the garbled file of a version.
 fn write_version(alloc: Global, of: Versioned<'_>, buffer: &mut [u8], written: &mut usize) -> i32
     ensures answer { MatchOption (version_of of.entry.version) (result ≡ pos 60) (λ v.
-        AnswersWritten result written.new
+        ReturnsCodeAndSize result written.new
         (IsGarbledAt of.entry.garbling.now v buffer.old buffer.new)
-        (HasFileFault of.entry.garbling.now v (length buffer.old))) }
+        (HasGarbledWriteFault of.entry.garbling.now v (length buffer.old))) }
     ensures kept { result ≢ pos 0 → buffer.new ≡ buffer.old }
     ensures unreported { result ≢ pos 0 → result ≢ pos 61 → written.new ≡ written.old }
 {
@@ -88,8 +89,8 @@ pub extern "C" fn halfgates_garbling_write(
     requires written { Testable (as_mut_ptr written) }
     ensures answer { OfGarbling garbling.old.held result (λ g.
         MatchOption (version_of version) (result ≡ pos 60) (λ v.
-        AnswersWritten result written.new (IsGarbledAt g v buffer.old buffer.new)
-        (HasFileFault g v (length buffer.old)))) }
+        ReturnsCodeAndSize result written.new (IsGarbledAt g v buffer.old buffer.new)
+        (HasGarbledWriteFault g v (length buffer.old)))) }
     ensures back { garbling.new ≡ garbling.old }
     ensures kept { result ≢ pos 0 → buffer.new ≡ buffer.old }
     ensures unreported { result ≢ pos 0 → result ≢ pos 61 → written.new ≡ written.old }
@@ -116,7 +117,7 @@ pub extern "C" fn halfgates_deal(
     requires seed { Testable (as_ptr seed) }
     requires written { Testable (as_mut_ptr written) }
     ensures answer { OfCircuit circuit.old.held result (λ c.
-        AnswersWritten result written.new
+        ReturnsCodeAndSize result written.new
         (IsDealtAt c seed.now index bits.now buffer.old buffer.new)
         (HasDealtFault c seed.now index bits.now (length buffer.old))) }
     ensures back { circuit.new ≡ circuit.old }
@@ -144,7 +145,7 @@ pub extern "C" fn halfgates_garbling_deal(
 ) -> i32
     requires written { Testable (as_mut_ptr written) }
     ensures answer { OfGarbling garbling.old.held result (λ g.
-        AnswersWritten result written.new (IsDealtFrom g index bits.now buffer.old buffer.new)
+        ReturnsCodeAndSize result written.new (IsDealtFrom g index bits.now buffer.old buffer.new)
         (HasDealtFaultFrom g index bits.now (length buffer.old))) }
     ensures back { garbling.new ≡ garbling.old }
     ensures kept { result ≢ pos 0 → buffer.new ≡ buffer.old }
@@ -170,7 +171,7 @@ pub extern "C" fn halfgates_label_file(
 ) -> i32
     requires written { Testable (as_mut_ptr written) }
     ensures answer { OfCircuit circuit.old.held result (λ c.
-        AnswersWritten result written.new
+        ReturnsCodeAndSize result written.new
         (IsReceivedAt c index labels.now buffer.old buffer.new)
         (HasReceivedFault c index labels.now (length buffer.old))) }
     ensures back { circuit.new ≡ circuit.old }

@@ -2,7 +2,7 @@
 
 ghost use Rattle.std.specs.Prelude.{◌≡◌, ◌≢◌, length, pos};
 ghost use Rattle.gc_kept.specs.Labels.{AreDecoded, AreEvaluatedTo, HasDecodeFault, HasLabelsEvalFault};
-ghost use Rattle.halfgates_c.specs.Answers.{Answers};
+ghost use Rattle.halfgates_c.specs.ReturnsCode.{ReturnsCode};
 ghost use Rattle.halfgates_c.specs.Holding.{OfCircuit};
 
 use crate::code::code_of;
@@ -21,7 +21,7 @@ pub extern "C" fn halfgates_evaluate_labels(
     outputs: &mut [u8],
 ) -> i32
     ensures answer { OfCircuit circuit.old.held result (λ c.
-        Answers result (AreEvaluatedTo c rows.now first labels.now outputs.old outputs.new)
+        ReturnsCode result (AreEvaluatedTo c rows.now first labels.now outputs.old outputs.new)
         (HasLabelsEvalFault c rows.now first labels.now (length outputs.old))) }
     ensures back { circuit.new ≡ circuit.old }
     ensures kept { result ≢ pos 0 → outputs.new ≡ outputs.old }
@@ -44,7 +44,7 @@ pub extern "C" fn halfgates_decode(
     decode_bits: &[u8],
     bits: &mut [u8],
 ) -> i32
-    ensures answers { Answers result (AreDecoded labels.now decode_bits.now bits.old bits.new)
+    ensures answers { ReturnsCode result (AreDecoded labels.now decode_bits.now bits.old bits.new)
         (HasDecodeFault labels.now decode_bits.now (length bits.old)) }
     ensures kept { result ≢ pos 0 → bits.new ≡ bits.old }
 {

@@ -7,7 +7,7 @@ ghost use Rattle.gc_label.specs.Label.{bytes_of_label};
 ghost use Rattle.gc_kept.specs.Garbling.{IsWantOfMemory};
 ghost use Rattle.gc_kept.specs.Garbler.{IsNextPiece, HasPieceFault, AreGivenLabels, AreMadeLabels, HasMadeLabelsFault, AreMadeBits, HasMadeBitsFault};
 ghost use Rattle.gc_kept.specs.Labels.{HasFromLabelsFault, HasValueLabelsFault};
-ghost use Rattle.halfgates_c.specs.Answers.{Answers};
+ghost use Rattle.halfgates_c.specs.ReturnsCode.{ReturnsCode};
 ghost use Rattle.halfgates_c.specs.Holding.{OfCircuit, OfGarbler};
 ghost use Rattle.halfgates_c.specs.InProgress.{HoldsBegunUnder, HoldsBegunFrom, HoldsNext};
 
@@ -29,7 +29,7 @@ pub extern "C" fn halfgates_garbler_begin(
     requires seed { Testable (as_ptr seed) }
     requires garbler { Testable (as_mut_ptr garbler) }
     ensures answer { OfCircuit circuit.old.held result (λ c.
-        Answers result (HoldsBegunUnder c seed.now garbler.new) IsWantOfMemory) }
+        ReturnsCode result (HoldsBegunUnder c seed.now garbler.new) IsWantOfMemory) }
     ensures back { circuit.new ≡ circuit.old }
     ensures kept { result ≢ pos 0 → garbler.new ≡ garbler.old }
 {
@@ -72,7 +72,7 @@ pub extern "C" fn halfgates_garbler_begin_from(
     requires offset { Testable (as_ptr offset) }
     requires garbler { Testable (as_mut_ptr garbler) }
     ensures answer { OfCircuit circuit.old.held result (λ c.
-        Answers result (HoldsBegunFrom c offset.now zero_labels.now first garbler.new)
+        ReturnsCode result (HoldsBegunFrom c offset.now zero_labels.now first garbler.new)
         (HasFromLabelsFault c offset.now zero_labels.now first)) }
     ensures back { circuit.new ≡ circuit.old }
     ensures kept { result ≢ pos 0 → garbler.new ≡ garbler.old }
@@ -123,7 +123,7 @@ pub extern "C" fn halfgates_garbler_input_labels(
     one: &mut [u8],
 ) -> i32
     ensures answer { OfGarbler garbler.old.held result (λ g.
-        Answers result (AreGivenLabels g index zero.old zero.new one.old one.new)
+        ReturnsCode result (AreGivenLabels g index zero.old zero.new one.old one.new)
         (HasValueLabelsFault g.circuit.input_widths index (length zero.old) (length one.old))) }
     ensures back { garbler.new ≡ garbler.old }
     ensures zero_kept { result ≢ pos 0 → zero.new ≡ zero.old }
@@ -149,7 +149,7 @@ fn next(garbler: &mut KeptGarbler, rows: &mut [u8], written: &mut usize) -> Resu
 
 /// Writes the next row pairs of what is held, if it is a garbler.
 fn next_of(held: &mut Held, rows: &mut [u8], written: &mut usize) -> i32
-    ensures answer { OfGarbler (Some held.old) result (λ g. Answers result
+    ensures answer { OfGarbler (Some held.old) result (λ g. ReturnsCode result
         (HoldsNext g (Some held.new) rows.old rows.new written.new)
         (HasPieceFault g (length rows.old))) }
     ensures kept { result ≢ pos 0 → held.new ≡ held.old }
@@ -172,7 +172,7 @@ pub extern "C" fn halfgates_garbler_next(
 ) -> i32
     requires written { Testable (as_mut_ptr written) }
     ensures answer { OfGarbler garbler.old.held result (λ g.
-        Answers result (HoldsNext g garbler.new.held rows.old rows.new written.new)
+        ReturnsCode result (HoldsNext g garbler.new.held rows.old rows.new written.new)
         (HasPieceFault g (length rows.old))) }
     ensures kept { result ≢ pos 0 → garbler.new.held ≡ garbler.old.held }
     ensures unwritten { result ≢ pos 0 → rows.new ≡ rows.old }
@@ -198,7 +198,7 @@ pub extern "C" fn halfgates_garbler_output_labels(
     one: &mut [u8],
 ) -> i32
     ensures answer { OfGarbler garbler.old.held result (λ g.
-        Answers result (AreMadeLabels g index zero.old zero.new one.old one.new)
+        ReturnsCode result (AreMadeLabels g index zero.old zero.new one.old one.new)
         (HasMadeLabelsFault g index (length zero.old) (length one.old))) }
     ensures back { garbler.new ≡ garbler.old }
     ensures zero_kept { result ≢ pos 0 → zero.new ≡ zero.old }
@@ -213,7 +213,7 @@ pub extern "C" fn halfgates_garbler_output_labels(
 #[unsafe(no_mangle)]
 pub extern "C" fn halfgates_garbler_decode_bits(garbler: &mut Handle, bits: &mut [u8]) -> i32
     ensures answer { OfGarbler garbler.old.held result (λ g.
-        Answers result (AreMadeBits g bits.old bits.new)
+        ReturnsCode result (AreMadeBits g bits.old bits.new)
         (HasMadeBitsFault g (length bits.old))) }
     ensures back { garbler.new ≡ garbler.old }
     ensures kept { result ≢ pos 0 → bits.new ≡ bits.old }

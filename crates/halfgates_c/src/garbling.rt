@@ -6,7 +6,7 @@ ghost use denote.RawPtr.{Testable};
 ghost use Rattle.gc_kept.specs.Garbling.{IsWantOfMemory};
 ghost use Rattle.gc_kept.specs.Labels.{HasFromLabelsFault};
 ghost use Rattle.gc_kept.specs.Wires.{IsZeroLabel, IsDecodeBit, HasNoWire, HasNoOutput};
-ghost use Rattle.halfgates_c.specs.Answers.{Answers};
+ghost use Rattle.halfgates_c.specs.ReturnsCode.{ReturnsCode};
 ghost use Rattle.halfgates_c.specs.Holding.{OfGarbling, OfKept};
 ghost use Rattle.halfgates_c.specs.Reading.{HoldsGarbling, HoldsGarblingFrom};
 
@@ -28,7 +28,7 @@ pub extern "C" fn halfgates_garble(
     requires seed { Testable (as_ptr seed) }
     requires garbling { Testable (as_mut_ptr garbling) }
     ensures answer { OfKept circuit.old.held result (λ c.
-        Answers result (HoldsGarbling c seed.now garbling.new) IsWantOfMemory) }
+        ReturnsCode result (HoldsGarbling c seed.now garbling.new) IsWantOfMemory) }
     ensures back { circuit.new ≡ circuit.old }
     ensures kept { result ≢ pos 0 → garbling.new ≡ garbling.old }
 {
@@ -71,7 +71,7 @@ pub extern "C" fn halfgates_garble_from(
     requires offset { Testable (as_ptr offset) }
     requires garbling { Testable (as_mut_ptr garbling) }
     ensures answer { OfKept circuit.old.held result (λ c.
-        Answers result (HoldsGarblingFrom c offset.now zero_labels.now first garbling.new)
+        ReturnsCode result (HoldsGarblingFrom c offset.now zero_labels.now first garbling.new)
         (HasFromLabelsFault c.netlist offset.now zero_labels.now first)) }
     ensures back { circuit.new ≡ circuit.old }
     ensures kept { result ≢ pos 0 → garbling.new ≡ garbling.old }
@@ -104,7 +104,7 @@ pub extern "C" fn halfgates_zero_label(
 ) -> i32
     requires label { Testable (as_mut_ptr label) }
     ensures answer { OfGarbling garbling.old.held result (λ g.
-        Answers result (IsZeroLabel g wire label.new) (HasNoWire g wire)) }
+        ReturnsCode result (IsZeroLabel g wire label.new) (HasNoWire g wire)) }
     ensures back { garbling.new ≡ garbling.old }
     ensures kept { result ≢ pos 0 → label.new ≡ label.old }
 {
@@ -121,7 +121,7 @@ pub extern "C" fn halfgates_zero_label(
 pub extern "C" fn halfgates_decode_bit(garbling: &mut Handle, output: u32, bit: &mut u8) -> i32
     requires bit { Testable (as_mut_ptr bit) }
     ensures answer { OfGarbling garbling.old.held result (λ g.
-        Answers result (IsDecodeBit g output bit.new) (HasNoOutput g output)) }
+        ReturnsCode result (IsDecodeBit g output bit.new) (HasNoOutput g output)) }
     ensures back { garbling.new ≡ garbling.old }
     ensures kept { result ≢ pos 0 → bit.new ≡ bit.old }
 {

@@ -4,7 +4,7 @@ ghost use Rattle.std.specs.Prelude.{◌≡◌, ◌≢◌, IfErr, IfOk, MatchOpti
 ghost use Rattle.gc_kept.specs.Garblings.{AreAllGarbledAt, HasAllGarbledFault};
 ghost use Rattle.gc_kept.specs.Version.{version_of};
 ghost use Rattle.gc_kept.specs.declared.held.Held.TheVariants as held;
-ghost use Rattle.halfgates_c.specs.Answers.{Answers};
+ghost use Rattle.halfgates_c.specs.ReturnsCode.{ReturnsCode};
 ghost use Rattle.halfgates_c.specs.Holding.{OfGarbling, OfGarblings, OfNoGarblings};
 
 use crate::borrow::Borrow;
@@ -49,7 +49,7 @@ fn garblings_of(alloc: Global, borrows: &[Borrow<Held>]) -> Result<Vec<&KeptGarb
 /// Writes the garbled files of these garblings.
 fn write_version(alloc: Global, garblings: &[&KeptGarbling], version: u32, files: &mut [u8]) -> i32
     ensures answer { MatchOption (version_of version) (result ≡ pos 60) (λ v.
-        Answers result (AreAllGarbledAt (map (λ g. g.now) garblings.now) v files.old files.new)
+        ReturnsCode result (AreAllGarbledAt (map (λ g. g.now) garblings.now) v files.old files.new)
         (HasAllGarbledFault (map (λ g. g.now) garblings.now) v (length files.old))) }
     ensures kept { result ≢ pos 0 → files.new ≡ files.old }
 {
@@ -63,7 +63,7 @@ fn write_version(alloc: Global, garblings: &[&KeptGarbling], version: u32, files
 fn write_held(alloc: Global, borrows: &[Borrow<Held>], version: u32, files: &mut [u8]) -> i32
     ensures answer { OfGarblings (map (λ b. b.value) borrows.now) result (λ gs.
         MatchOption (version_of version) (result ≡ pos 60) (λ v.
-        Answers result (AreAllGarbledAt gs v files.old files.new)
+        ReturnsCode result (AreAllGarbledAt gs v files.old files.new)
         (HasAllGarbledFault gs v (length files.old)))) }
     ensures kept { result ≢ pos 0 → files.new ≡ files.old }
 {
@@ -83,7 +83,7 @@ pub extern "C" fn halfgates_write_many(
 ) -> i32
     ensures answer { OfGarblings (map (λ h. h.held) garblings.old) result (λ gs.
         MatchOption (version_of version) (result ≡ pos 60) (λ v.
-        Answers result (AreAllGarbledAt gs v files.old files.new)
+        ReturnsCode result (AreAllGarbledAt gs v files.old files.new)
         (HasAllGarbledFault gs v (length files.old)))) }
     ensures back { garblings.new ≡ garblings.old }
     ensures kept { result ≢ pos 0 → files.new ≡ files.old }

@@ -3,9 +3,9 @@
 ghost use Rattle.std.specs.Prelude.{◌≡◌, ◌≢◌, IfErr, IsTrue, OnErr, OnOk, length, pos};
 ghost use Rattle.core.specs.Ptr.{as_mut_ptr};
 ghost use denote.RawPtr.{Testable};
-ghost use Rattle.gc_kept.specs.Job.{HasBindingFault, HasKeptJobFault, AreEvaluated, HasEvaluationFault};
+ghost use Rattle.gc_kept.specs.Job.{HasBoundJobFault, HasKeptJobFault, HasOutputBits, HasEvaluationFault};
 ghost use Rattle.gc_kept.specs.Labels.{AreJobLabels, HasJobLabelsFault};
-ghost use Rattle.halfgates_c.specs.Answers.{Answers};
+ghost use Rattle.halfgates_c.specs.ReturnsCode.{ReturnsCode};
 ghost use Rattle.halfgates_c.specs.Holding.{OfDigested, OfJob};
 ghost use Rattle.halfgates_c.specs.Reading.{HoldsJob};
 
@@ -26,7 +26,7 @@ fn bind(
     ensures digest { OnOk result (IsTrue circuit.now.has_digest) }
     ensures ok { OnOk result (HoldsJob circuit.now.netlist files.entry.garbled.now
         files.entry.labels.now files.entry.lengths.now slot.new) }
-    ensures fault { IfErr result (HasBindingFault circuit.now
+    ensures fault { IfErr result (HasBoundJobFault circuit.now
         files.entry.garbled.now files.entry.labels.now files.entry.lengths.now) }
     ensures kept { OnErr result (slot.new ≡ slot.old) }
 {
@@ -46,7 +46,7 @@ pub extern "C" fn halfgates_job_bind(
 ) -> i32
     requires job { Testable (as_mut_ptr job) }
     ensures answer { OfDigested circuit.old.held result (λ c.
-        Answers result (HoldsJob c garbled.now labels.now lengths.now job.new)
+        ReturnsCode result (HoldsJob c garbled.now labels.now lengths.now job.new)
         (HasKeptJobFault c garbled.now labels.now lengths.now)) }
     ensures back { circuit.new ≡ circuit.old }
     ensures kept { result ≢ pos 0 → job.new ≡ job.old }
@@ -72,7 +72,7 @@ pub extern "C" fn halfgates_job_free(job: Slot) {
 #[unsafe(no_mangle)]
 pub extern "C" fn halfgates_evaluate(alloc: Global, job: &mut Handle, bits: &mut [u8]) -> i32
     ensures answer { OfJob job.old.held result (λ j.
-        Answers result (AreEvaluated j bits.old bits.new)
+        ReturnsCode result (HasOutputBits j bits.old bits.new)
         (HasEvaluationFault j (length bits.old))) }
     ensures back { job.new ≡ job.old }
     ensures kept { result ≢ pos 0 → bits.new ≡ bits.old }
@@ -88,7 +88,7 @@ pub extern "C" fn halfgates_job_output_labels(
     outputs: &mut [u8],
 ) -> i32
     ensures answer { OfJob job.old.held result (λ j.
-        Answers result (AreJobLabels j outputs.old outputs.new)
+        ReturnsCode result (AreJobLabels j outputs.old outputs.new)
         (HasJobLabelsFault j (length outputs.old))) }
     ensures back { job.new ≡ job.old }
     ensures kept { result ≢ pos 0 → outputs.new ≡ outputs.old }

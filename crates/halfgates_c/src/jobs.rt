@@ -3,7 +3,7 @@
 ghost use Rattle.std.specs.Prelude.{◌≡◌, ◌≢◌, ◌≤◌, IfErr, IfOk, MatchResult, Some, length, map, pos};
 ghost use Rattle.gc_kept.specs.Jobs.{AreAllEvaluated, HasJobListFault};
 ghost use Rattle.gc_kept.specs.declared.held.Held.TheVariants as held;
-ghost use Rattle.halfgates_c.specs.Answers.{Answers};
+ghost use Rattle.halfgates_c.specs.ReturnsCode.{ReturnsCode};
 ghost use Rattle.halfgates_c.specs.Holding.{OfJob, OfJobs, OfNoJobs};
 
 use crate::borrow::Borrow;
@@ -47,7 +47,7 @@ pub(crate) fn jobs_of(alloc: Global, borrows: &[Borrow<Held>]) -> Result<Vec<&Ke
 /// Evaluates the jobs that these handles hold.
 fn evaluate_held(alloc: Global, borrows: &[Borrow<Held>], bits: &mut [u8]) -> i32
     ensures answer { OfJobs (map (λ b. b.value) borrows.now) result (λ jobs.
-        Answers result (AreAllEvaluated jobs bits.old bits.new)
+        ReturnsCode result (AreAllEvaluated jobs bits.old bits.new)
         (HasJobListFault jobs (length bits.old))) }
     ensures kept { result ≢ pos 0 → bits.new ≡ bits.old }
 {
@@ -65,7 +65,7 @@ pub extern "C" fn halfgates_evaluate_many(
     bits: &mut [u8],
 ) -> i32
     ensures answer { OfJobs (map (λ h. h.held) jobs.old) result (λ js.
-        Answers result (AreAllEvaluated js bits.old bits.new)
+        ReturnsCode result (AreAllEvaluated js bits.old bits.new)
         (HasJobListFault js (length bits.old))) }
     ensures back { jobs.new ≡ jobs.old }
     ensures kept { result ≢ pos 0 → bits.new ≡ bits.old }

@@ -3,8 +3,8 @@
 ghost use Rattle.std.specs.Prelude.{◌≡◌, ◌≢◌, OnOk, OnErr, IfErr, pos};
 ghost use Rattle.core.specs.Ptr.{as_mut_ptr};
 ghost use denote.RawPtr.{Testable};
-ghost use Rattle.halfgates_c.specs.Answers.{Answers};
-ghost use Rattle.halfgates_c.specs.Places.{IsPlaceOf, IsPlaceIn, IsTextMemory};
+ghost use Rattle.halfgates_c.specs.ReturnsCode.{ReturnsCode};
+ghost use Rattle.halfgates_c.specs.Places.{IsFaultPlace, IsPlaceIn, IsTextMemory};
 
 use crate::code::{NULL_POINTER, code_of};
 use crate::null::is_null;
@@ -28,7 +28,7 @@ pub struct Place {
 
 /// The place of what is found.
 fn place_of(found: Option<Located>) -> Place
-    ensures { IsPlaceOf found result }
+    ensures { IsFaultPlace found result }
 {
     match found {
         Some(at) => Place {
@@ -67,7 +67,7 @@ fn locate(alloc: Global, text: &[u8], place: &mut Place) -> Result<(), KeptFault
 #[unsafe(no_mangle)]
 pub extern "C" fn halfgates_locate(alloc: Global, text: &[u8], place: &mut Place) -> i32
     requires place { Testable (as_mut_ptr place) }
-    ensures answers { Answers result (IsPlaceIn text.now place.new) IsTextMemory }
+    ensures answers { ReturnsCode result (IsPlaceIn text.now place.new) IsTextMemory }
     ensures kept { result ≢ pos 0 → place.new ≡ place.old }
 {
     if is_null(place) {

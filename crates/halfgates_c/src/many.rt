@@ -2,7 +2,7 @@
 
 ghost use Rattle.std.specs.Prelude.{◌≡◌, ◌≢◌, IfErr, IfOk, OnErr, OnOk, length, pos};
 ghost use Rattle.std.specs.List.{AllZip};
-ghost use Rattle.halfgates_c.specs.Answers.{Answers};
+ghost use Rattle.halfgates_c.specs.ReturnsCode.{ReturnsCode};
 ghost use Rattle.halfgates_c.specs.Holding.{OfKept};
 ghost use Rattle.halfgates_c.specs.Reading.{HasManyFault, HoldsGarbling, HoldsThis};
 
@@ -78,7 +78,7 @@ pub extern "C" fn halfgates_garble_many(
     garblings: &mut [Slot],
 ) -> i32
     ensures answer { OfKept circuit.old.held result (λ c.
-        Answers result (AllZip (HoldsGarbling c) seeds.now garblings.new)
+        ReturnsCode result (AllZip (HoldsGarbling c) seeds.now garblings.new)
         (HasManyFault (length seeds.now) (length garblings.old))) }
     ensures back { circuit.new ≡ circuit.old }
     ensures kept { result ≢ pos 0 → garblings.new ≡ garblings.old }

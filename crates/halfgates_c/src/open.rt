@@ -2,7 +2,7 @@
 
 ghost use Rattle.std.specs.Prelude.{◌≡◌, ◌≢◌, length, pos};
 ghost use Rattle.gc_kept.specs.Opening.{AreOpened, HasOpenFault};
-ghost use Rattle.halfgates_c.specs.Answers.{Answers};
+ghost use Rattle.halfgates_c.specs.ReturnsCode.{ReturnsCode};
 ghost use Rattle.halfgates_c.specs.Holding.{OfGarbling};
 
 use crate::code::code_of;
@@ -17,7 +17,7 @@ pub extern "C" fn halfgates_open(
     bits: &mut [u8],
 ) -> i32
     ensures answer { OfGarbling garbling.old.held result (λ g.
-        Answers result (AreOpened g index labels.now bits.old bits.new)
+        ReturnsCode result (AreOpened g index labels.now bits.old bits.new)
         (HasOpenFault g index labels.now (length bits.old))) }
     ensures back { garbling.new ≡ garbling.old }
     ensures kept { result ≢ pos 0 → bits.new ≡ bits.old }

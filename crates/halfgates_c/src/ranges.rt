@@ -2,7 +2,7 @@
 
 ghost use Rattle.std.specs.Prelude.{◌≡◌, ◌≢◌, length, pos};
 ghost use Rattle.gc_kept.specs.Ranges.{AreRowsAt, HasRangeFault};
-ghost use Rattle.halfgates_c.specs.Answers.{Answers};
+ghost use Rattle.halfgates_c.specs.ReturnsCode.{ReturnsCode};
 ghost use Rattle.halfgates_c.specs.Holding.{OfGarbling};
 
 use crate::code::code_of;
@@ -17,7 +17,7 @@ pub extern "C" fn halfgates_rows_range(
     rows: &mut [u8],
 ) -> i32
     ensures answer { OfGarbling garbling.old.held result (λ g.
-        Answers result (AreRowsAt g from count rows.old rows.new)
+        ReturnsCode result (AreRowsAt g from count rows.old rows.new)
         (HasRangeFault g from count (length rows.old))) }
     ensures back { garbling.new ≡ garbling.old }
     ensures kept { result ≢ pos 0 → rows.new ≡ rows.old }

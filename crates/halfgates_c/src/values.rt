@@ -10,7 +10,7 @@ ghost use Rattle.gc_file.specs.GarbledFile.{row_bytes};
 ghost use Rattle.gc_audit.specs.Labels.{first_wire_of};
 ghost use Rattle.gc_kept.specs.Files.{IsFileAt, HasRoomFault};
 ghost use Rattle.gc_kept.specs.Labels.{AreValueLabels, HasValueLabelsFault, first_output_of};
-ghost use Rattle.halfgates_c.specs.Answers.{Answers};
+ghost use Rattle.halfgates_c.specs.ReturnsCode.{ReturnsCode};
 ghost use Rattle.halfgates_c.specs.Holding.{OfGarbling};
 
 use crate::code::{NULL_POINTER, OK, code_of};
@@ -45,7 +45,7 @@ pub extern "C" fn halfgates_input_labels(
     one: &mut [u8],
 ) -> i32
     ensures answer { OfGarbling garbling.old.held result (λ g.
-        Answers result (AreValueLabels g g.circuit.input_widths index
+        ReturnsCode result (AreValueLabels g g.circuit.input_widths index
         (first_wire_of g.circuit index) zero.old zero.new one.old one.new)
         (HasValueLabelsFault g.circuit.input_widths index (length zero.old) (length one.old))) }
     ensures back { garbling.new ≡ garbling.old }
@@ -66,7 +66,7 @@ pub extern "C" fn halfgates_output_labels(
     one: &mut [u8],
 ) -> i32
     ensures answer { OfGarbling garbling.old.held result (λ g.
-        Answers result (AreValueLabels g g.circuit.output_widths index
+        ReturnsCode result (AreValueLabels g g.circuit.output_widths index
         (first_output_of g.circuit index) zero.old zero.new one.old one.new)
         (HasValueLabelsFault g.circuit.output_widths index (length zero.old) (length one.old))) }
     ensures back { garbling.new ≡ garbling.old }
@@ -82,7 +82,7 @@ pub extern "C" fn halfgates_output_labels(
 #[unsafe(no_mangle)]
 pub extern "C" fn halfgates_rows(garbling: &mut Handle, rows: &mut [u8]) -> i32
     ensures answer { OfGarbling garbling.old.held result (λ g.
-        Answers result (IsFileAt (flat_map row_bytes g.garbling.rows) rows.old rows.new)
+        ReturnsCode result (IsFileAt (flat_map row_bytes g.garbling.rows) rows.old rows.new)
         (HasRoomFault (32 * length g.garbling.rows) (length rows.old))) }
     ensures back { garbling.new ≡ garbling.old }
     ensures kept { result ≢ pos 0 → rows.new ≡ rows.old }
@@ -94,7 +94,7 @@ pub extern "C" fn halfgates_rows(garbling: &mut Handle, rows: &mut [u8]) -> i32
 #[unsafe(no_mangle)]
 pub extern "C" fn halfgates_decode_bits(garbling: &mut Handle, bits: &mut [u8]) -> i32
     ensures answer { OfGarbling garbling.old.held result (λ g.
-        Answers result (IsFileAt (map bit_number (decode_bits_of g.garbling)) bits.old bits.new)
+        ReturnsCode result (IsFileAt (map bit_number (decode_bits_of g.garbling)) bits.old bits.new)
         (HasRoomFault g.garbling.outputs (length bits.old))) }
     ensures back { garbling.new ≡ garbling.old }
     ensures kept { result ≢ pos 0 → bits.new ≡ bits.old }

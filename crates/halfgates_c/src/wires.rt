@@ -2,7 +2,7 @@
 
 ghost use Rattle.std.specs.Prelude.{◌≡◌, ◌≢◌, ◌+◌, ◌≤◌, ◌<◌, IfErr, OnErr, OnOk, length, pos};
 ghost use Rattle.halfgates_c.specs.Holding.{OfGarbling};
-ghost use Rattle.halfgates_c.specs.Answers.{Answers};
+ghost use Rattle.halfgates_c.specs.ReturnsCode.{ReturnsCode};
 ghost use Rattle.halfgates_c.specs.WireLabels.{AreLabelsFrom, AreLabelsOn, AreWireLabels, HasWiresFault};
 
 use crate::code::code_of;
@@ -90,7 +90,7 @@ pub extern "C" fn halfgates_labels(
     labels: &mut [WireLabels],
 ) -> i32
     ensures answer { OfGarbling garbling.old.held result (λ g.
-        Answers result (AreLabelsOn g bits.now from labels.new)
+        ReturnsCode result (AreLabelsOn g bits.now from labels.new)
         (HasWiresFault g bits.now from (length labels.old))) }
     ensures count { length labels.new ≡ length labels.old }
     ensures kept { result ≢ pos 0 → labels.new ≡ labels.old }

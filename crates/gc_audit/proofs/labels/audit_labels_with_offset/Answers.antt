@@ -1,4 +1,4 @@
-use Rattle.gc_audit.proofs.Names.{ℕ, length, refl, sym, ap, subst, ◌∙◌, WrongWidth, HasInputLabels, IsVerdictWith, AreCompared}
+use Rattle.gc_audit.proofs.Names.{ℕ, length, refl, sym, ap, subst, ◌∙◌, WrongWidth, HasInputLabels, IsVerdictWith, IsVerdictFrom}
 use Rattle.std.specs.Result.{IfOk}
 use Rattle.std.proofs.lemmas.Result.{IfOk-weaker}
 use Rattle.gc_audit.proofs.LabelsLemmas.{found_at, verdict-dealt, compared-verdict}
@@ -30,10 +30,10 @@ verdict g c zero_label has =
     let at = found_at _ _ _ _ _ _ found.0 found.1 c.input_widths.ensures c.index-index.ensures
     (ap length (sym c.labels-filed.ensures) ∙ c.if-filed-width.false) in
     let first = c.first_wire-first.result in
-    IfOk-weaker c.compare.result (AreCompared of.offset zero_label first file.labels) _
+    IfOk-weaker c.compare.result (IsVerdictFrom of.offset zero_label first file.labels) _
     (λ v is. compared-verdict of.circuit.now of.offset c.law_coloured.ensures zero_label file v
     first c.index-index.result at c.first_wire-first.ensures c.index-index.ensures is)
-    (subst (λ l. IfOk c.compare.result (AreCompared of.offset zero_label first l))
+    (subst (λ l. IfOk c.compare.result (IsVerdictFrom of.offset zero_label first l))
     c.labels-filed.ensures
     (c.compare.ensures zero_label has))
 

@@ -1,6 +1,6 @@
 use Rattle.std.proofs.Common.{rules, ⊎_elim, inl, inr, arith, refl}
 use Rattle.clap.specs.Words.{kind_of}
-use Rattle.gc_order.specs.Order.{text_of}
+use Rattle.gc_order.specs.Order.{order_text}
 use Rattle.gc_command.specs.declared.fault.Fault.TheVariants.{CannotWrite}
 use Rattle.gc_cli.proofs.MistakeLemmas.{IsMistaken-other_kind}
 use Rattle.gc_cli.proofs.program.serve_asked.Goals as goal
@@ -11,14 +11,19 @@ returns-in-Ok-clause-fault g c = λ _ words old new is.
       c.in-Err-print_answer.fault,
       (
         inl (
-          text_of c.in-Ok.asked.order,
+          order_text c.in-Ok.asked.order,
           read.0,
           rw c.report_order.ensures.same c.in-Err-print_answer.ensures.fault,
         ),
         (
           c.report_order.ensures.printed.0,
           c.report_order.ensures.printed.1,
-          inr (text_of c.in-Ok.asked.order, read.0, rw (← read.1) c.report_order.ensures.printed.2),
+          inr (
+            order_text c.in-Ok.asked.order,
+            read.0,
+            rw (← read.1)
+                c.report_order.ensures.printed.2,
+          ),
         ),
       ),
     )

@@ -1,5 +1,5 @@
 use Rattle.gc_file.proofs.ReaderNames.{◌+◌, ◌*◌, append-nil, append_assoc, refl, arith, flat_map-append, All-push}
-use Rattle.gc_file.specs.LabelBytes.{AreLabels}
+use Rattle.gc_file.specs.LabelBytes.{IsLabelPair}
 use Rattle.gc_file.proofs.PairLemmas.{take_item}
 use Rattle.gc_file.proofs.pairs.push_pairs.Goals as goal
 
@@ -17,6 +17,6 @@ loop-i-preserved g c =
         take_item 32 (32 * i) (32 * (i + 1)) c.args.bytes.now (omega arith),
       ) refl;
       labels = rw c.in_ok-push.ensures.items
-          (All-push (AreLabels g.P.LabelPair.labels) _ _ c.loop-i.invariant.labels
+          (All-push (IsLabelPair g.P.LabelPair.labels) _ _ c.loop-i.invariant.labels
           c.pair_from_bytes.ensures.labels);
     }

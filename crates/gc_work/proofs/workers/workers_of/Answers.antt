@@ -1,4 +1,4 @@
-use Rattle.gc_work.proofs.Names.{◌≡◌, Some, slice_get, All-pop, All-push, ArePlaced, IsReady}
+use Rattle.gc_work.proofs.Names.{◌≡◌, Some, slice_get, All-pop, All-push, ArePlaced, IsPlacedWorker}
 use Rattle.gc_work.proofs.workers.workers_of.Goals as goal
 
 pub loop-placed-preserved : goal.loop-placed-preserved
@@ -11,6 +11,6 @@ loop-placed-preserved g c =
     c.in-Some-pop.ensures.items was.rows in record {
       owners = held.0;
       rows = rows.0;
-      workers = rw c.in_ok-push.ensures.items (All-push (λ w. IsReady pools w)
+      workers = rw c.in_ok-push.ensures.items (All-push (λ w. IsPlacedWorker pools w)
           c.loop-placed.workers.items _ was.workers (record { own = held.1; others = rows.1 }));
     }

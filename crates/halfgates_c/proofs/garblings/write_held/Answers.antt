@@ -5,7 +5,7 @@ use mir.Val.{SFits}
 use Rattle.gc_kept.specs.Garblings.{AreAllGarbledAt, HasAllGarbledFault}
 use Rattle.gc_kept.specs.Version.{version_of}
 use Rattle.gc_kept.specs.declared.held.Held.TheVariants.{Garbling}
-use Rattle.halfgates_c.specs.Answers.{Answers}
+use Rattle.halfgates_c.specs.ReturnsCode.{ReturnsCode}
 use Rattle.halfgates_c.specs.Holding.{OfGarbling}
 use Rattle.halfgates_c.proofs.ListLemmas.{all_of, garbling_is, none_of}
 use Rattle.halfgates_c.proofs.garblings.write_held.Goals as goal
@@ -13,7 +13,8 @@ use Rattle.halfgates_c.proofs.garblings.write_held.Goals as goal
 pub returns-in-Ok-clause-answer : goal.returns-in-Ok-clause-answer
 returns-in-Ok-clause-answer c =
     rw (c.in-Ok.ensures.ok, ← c.deref.ensures.value)
-    (inr (all_of OfGarbling Garbling garbling_is (map (λ g. g.now) c.deref.result.now) _ _ (search rules)))
+    (inr (all_of OfGarbling Garbling garbling_is (map (λ g. g.now) c.deref.result.now) _ _
+    (search rules)))
 
 pub returns-in-Err-clause-answer : goal.returns-in-Err-clause-answer
 returns-in-Err-clause-answer c =
@@ -22,5 +23,6 @@ returns-in-Err-clause-answer c =
     rw (to_z-of_z w32 c.in-Err.code fits)
     (none_of OfGarbling Garbling garbling_is (map (λ b. b.value) c.args.borrows.now) c.in-Err.code
     (λ gs. MatchOption (version_of c.args.version) (c.in-Err.code ≡ pos 60)
-    (λ v. Answers c.in-Err.code (AreAllGarbledAt gs v old old) (HasAllGarbledFault gs v (length old))))
+    (λ v. ReturnsCode c.in-Err.code (AreAllGarbledAt gs v old old)
+    (HasAllGarbledFault gs v (length old))))
     c.in-Err.ensures.code)

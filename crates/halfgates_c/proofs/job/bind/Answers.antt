@@ -2,13 +2,13 @@ use Rattle.std.proofs.Common.{◌≡◌, ℕ, inr, List, Result, Ok, Err, IfErr,
 use Rattle.gc_kept.specs.declared.fault.KeptFault.{KeptFault}
 use Rattle.gc_kept.specs.declared.fault.KeptFault.TheVariants.{Memory}
 use Rattle.gc_kept.specs.Circuit.{CircuitWith}
-use Rattle.gc_kept.specs.Job.{HasBindingFault, HasKeptJobFault, want}
+use Rattle.gc_kept.specs.Job.{HasBoundJobFault, HasKeptJobFault, want}
 use Rattle.halfgates_c.proofs.job.bind.Goals as goal
 
 -- Memory may be missing for the handle too.
 wanting : {T : Type 0} (c : CircuitWith) (garbled labels lengths : List ℕ) (r : Result T KeptFault)
     → IsTrue c.has_digest → IfErr r (λ fault. fault ≡ Memory)
-    → IfErr r (HasBindingFault c garbled labels lengths)
+    → IfErr r (HasBoundJobFault c garbled labels lengths)
 wanting c garbled labels lengths (Ok x) taken so = tt
 wanting c garbled labels lengths (Err fault) taken so = inr (
   taken,

@@ -4,7 +4,7 @@ use mir.Syntax.{w32}
 use mir.Val.{SFits}
 use Rattle.gc_kept.specs.Jobs.{AreAllEvaluated, HasJobListFault}
 use Rattle.gc_kept.specs.declared.held.Held.TheVariants.{Job}
-use Rattle.halfgates_c.specs.Answers.{Answers}
+use Rattle.halfgates_c.specs.ReturnsCode.{ReturnsCode}
 use Rattle.halfgates_c.specs.Holding.{OfJob}
 use Rattle.halfgates_c.proofs.ListLemmas.{all_of, job_is, none_of}
 use Rattle.halfgates_c.proofs.jobs.evaluate_held.Goals as goal
@@ -20,5 +20,6 @@ returns-in-Err-clause-answer c =
     let old = c.args.bits.now in
     rw (to_z-of_z w32 c.in-Err.code fits)
     (none_of OfJob Job job_is (map (λ b. b.value) c.args.borrows.now) c.in-Err.code
-    (λ jobs. Answers c.in-Err.code (AreAllEvaluated jobs old old) (HasJobListFault jobs (length old)))
+    (λ jobs. ReturnsCode c.in-Err.code (AreAllEvaluated jobs old old)
+    (HasJobListFault jobs (length old)))
     c.in-Err.ensures.code)

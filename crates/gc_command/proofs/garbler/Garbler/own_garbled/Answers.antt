@@ -1,4 +1,4 @@
-use Rattle.gc_command.proofs.Names.{err_from_is_err_and, FirstFault, file_not_fault}
+use Rattle.gc_command.proofs.Names.{err_from_is_err_and, FirstGarbledFault, file_not_fault}
 use Rattle.gc_command.proofs.FaultLemmas.{file-memory}
 use Rattle.gc_command.proofs.OwnFilesLemmas.{own-garbled, own-parts}
 use Rattle.gc_command.proofs.garbler.Garbler.own_garbled.Goals as goal
@@ -9,7 +9,7 @@ returns-in_err-read_garbled-clause-fault g c =
     c.from_residual-in_err-read_garbled.ensures.1 in
     let file = own-garbled _ _ _ c.law_lawful.ensures c.in_ok-bytes.ensures.file in
     rw (p.1, p.2)
-    (file-memory (FirstFault c.in_ok-bytes.bytes.items) (λ e. file_not_fault _ _ e file) _
+    (file-memory (FirstGarbledFault c.in_ok-bytes.bytes.items) (λ e. file_not_fault _ _ e file) _
     (rw c.deref.ensures.value at c.in_err-read_garbled.ensures))
 
 pub returns-clause-honest : goal.returns-clause-honest

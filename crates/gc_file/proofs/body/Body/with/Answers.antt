@@ -1,4 +1,4 @@
-use Rattle.gc_file.proofs.ReaderNames.{rules, ◌≡◌, ◌-◌, ◌<◌, ◌++◌, length, arith, err_from_is_err_and, nat_tests, output_count, IsSpare, version_of, row_size, decode_size, entry_size, IsCutUp, IsGiven}
+use Rattle.gc_file.proofs.ReaderNames.{rules, ◌≡◌, ◌-◌, ◌<◌, ◌++◌, length, arith, err_from_is_err_and, nat_tests, output_count, IsSpare, version_of_bytes, row_size, decode_size, entry_size, IsCutUp, IsGiven}
 use Rattle.gc_file.proofs.PlaceLemmas.{in_order}
 use Rattle.gc_file.proofs.StepLemmas.{spare_step, bad_trailer_step, more_step, body_step, view_step, message_step, given_step}
 use Rattle.gc_file.proofs.body.Body.with.Given.{Over}
@@ -109,4 +109,4 @@ returns-clause-ok g c =
 
 pub returns-clause-sound : goal.returns-clause-sound
 returns-clause-sound g c =
-    (version_of c.self.inside.header.items, in_order (invariant_of-result g c))
+    (version_of_bytes c.self.inside.header.items, in_order (invariant_of-result g c))

@@ -1,7 +1,7 @@
 use Rattle.std.proofs.Common.{◌≡◌, Bool, true, List, [], ◌∷◌, length, Option, Some, None, IfNone, sym, ap, ◌∙◌, arith}
 use Rattle.std.specs.List.{list_any}
 use Rattle.gc_half.specs.Waiting.{gates_in}
-use Rattle.gc_steps.specs.Walks.{Progress}
+use Rattle.gc_steps.specs.Walks.{WalkState}
 use Rattle.gc_steps.proofs.walk.Walk.next.Goals as goal
 
 -- A gate waits, where a wire of one is read.
@@ -17,7 +17,7 @@ if_none P Q (Some x) follows is = tt
 pub returns-then-are_read-clause-none : goal.returns-then-are_read-clause-none
 returns-then-are_read-clause-none g c =
     let waiting = gates_in c.self.inside.waiting in
-    let seen = ap (λ (p : Progress). p.waiting) c.self.view_is in
+    let seen = ap (λ (p : WalkState). p.waiting) c.self.view_is in
     let some : length waiting ≡ 0 → ⊥ =
     some_waits _ waiting (sym c.are_read.ensures ∙ c.if-are_read.true) in
     if_none ((c.loop-self.self.waiting ≡ 0) × (c.release.new.self.waiting ≡ 0))

@@ -11,7 +11,7 @@ pub record HasCode (code : ℤ) (Q : KeptFault → Type 0) : Type 0 where
   pub holds : Q fault
 
 -- The code is 0 and P holds, or it is that of a fault of which Q holds, and isn't 0.
-pub record Answers (code : ℤ) (P : Type 0) (Q : KeptFault → Type 0) : Type 0 where
+pub record ReturnsCode (code : ℤ) (P : Type 0) (Q : KeptFault → Type 0) : Type 0 where
   pub done : code ≡ pos 0 → P
   pub fault : code ≢ pos 0 → HasCode code Q
 
@@ -21,7 +21,7 @@ IsReported written (NeedsRoom size) = written ≡ size
 IsReported written _ = Unit {0}
 
 -- The same where a call reports how many bytes it wrote, of which P holds, or how many it needs room for.
-pub record AnswersWritten (code : ℤ) (written : ℕ) (P : ℕ → Type 0) (Q : KeptFault → Type 0)
+pub record ReturnsCodeAndSize (code : ℤ) (written : ℕ) (P : ℕ → Type 0) (Q : KeptFault → Type 0)
     : Type 0 where
   pub done : code ≡ pos 0 → P written
   pub fault : code ≢ pos 0 → HasCode code (λ fault. Q fault × IsReported written fault)
