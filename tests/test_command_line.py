@@ -165,8 +165,8 @@ class CommandLine(ProgramTest):
             (["--help"], HELP),
             (["-h"], HELP),
             (["run", "--help"], RUN_HELP),
-            (["--version"], "halfgates 0.9.8\n"),
-            (["-V"], "halfgates 0.9.8\n"),
+            (["--version"], "halfgates 0.9.9\n"),
+            (["-V"], "halfgates 0.9.9\n"),
         ]:
             self.assert_prints(text, *words)
 

@@ -172,7 +172,7 @@ pub enum Version {
     V2 = 2,
 }
 
-/// The version of the library, such as `0.9.8`.
+/// The version of the library, such as `0.9.9`.
 #[must_use]
 #[doc(alias = "halfgates_version")]
 pub fn version() -> String {

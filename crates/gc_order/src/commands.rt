@@ -21,7 +21,7 @@ use clap::{Arg, ArgAction, Command};
 use std::alloc::{AllocError, Global};
 
 /// The version of the program.
-const VERSION: &str = "0.9.8";
+const VERSION: &str = "0.9.9";
 
 /// The greatest number that an argument or an option takes. No circuit has as many wires.
 const MOST: u64 = 4_294_967_295;

@@ -7,7 +7,7 @@ ghost use Rattle.halfgates_c.specs.Names.{name_of_code, padded, NamesFault, IsMe
 const ROOM: usize = 32;
 
 /// The version of the library.
-const VERSION: &str = "0.9.8";
+const VERSION: &str = "0.9.9";
 
 /// A name that a zero byte ends: `halfgates_name`.
 #[repr(C)]
@@ -97,7 +97,7 @@ pub extern "C" fn halfgates_is_memory(code: i32) -> i32
 /// The version of the library.
 #[unsafe(no_mangle)]
 pub extern "C" fn halfgates_version() -> Name
-    ensures { result.text ≡ padded (codes "0.9.8") }
+    ensures { result.text ≡ padded (codes "0.9.9") }
 {
     name_of(VERSION.as_bytes())
 }
