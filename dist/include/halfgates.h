@@ -96,7 +96,7 @@
 /* The version of this header. That of the library is halfgates_version(). */
 #define HALFGATES_VERSION_MAJOR 0
 #define HALFGATES_VERSION_MINOR 9
-#define HALFGATES_VERSION_PATCH 8
+#define HALFGATES_VERSION_PATCH 9
 
 #ifdef __cplusplus
 extern "C" {
@@ -176,7 +176,7 @@ halfgates_name halfgates_fault_name(int32_t code);
 /* Whether a code says that memory ran out: 1 for 13, 23, 36, 46 and 62, and else 0. */
 int32_t halfgates_is_memory(int32_t code);
 
-/* The version of the library, such as "0.9.8". */
+/* The version of the library, such as "0.9.9". */
 halfgates_name halfgates_version(void);
 
 /* ---------------------------------------------------------------------------------------------------- circuits -- */

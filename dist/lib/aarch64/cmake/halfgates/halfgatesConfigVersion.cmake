@@ -1,7 +1,7 @@
 # SPDX-License-Identifier: MIT OR Apache-2.0
 # A release serves where an earlier one of the same soname is asked for, which has the same major version. A range also
 # names the last release, or the first one that is too late.
-set(PACKAGE_VERSION 0.9.8)
+set(PACKAGE_VERSION 0.9.9)
 string(REGEX MATCH "^[0-9]+" _halfgates_major "${PACKAGE_VERSION}")
 if(PACKAGE_FIND_VERSION VERSION_EQUAL PACKAGE_VERSION)
   set(PACKAGE_VERSION_EXACT TRUE)
