@@ -18,5 +18,5 @@ abbrev pub one_if : Bool → ℕ
 one_if counts = if counts then 1 else 0
 
 -- Each count is below m.
-abbrev pub AreBelow : ℕ → Counts → Type 0
-AreBelow m n = (n.xor < m) × (n.and < m) × (n.inv < m) × (n.eq < m) × (n.eqw < m)
+abbrev pub AreCountsBelow : ℕ → Counts → Type 0
+AreCountsBelow m n = (n.xor < m) × (n.and < m) × (n.inv < m) × (n.eq < m) × (n.eqw < m)

@@ -25,5 +25,5 @@ abbrev pub depths_in : List Depths → ℕ → Depths
 depths_in table w = slice_index_or table w none_deep
 
 -- Both are below m.
-abbrev pub AreBelow : ℕ → Depths → Type 0
-AreBelow m d = (d.depth < m) × (d.and_depth < m)
+abbrev pub AreDepthsBelow : ℕ → Depths → Type 0
+AreDepthsBelow m d = (d.depth < m) × (d.and_depth < m)

@@ -3,7 +3,7 @@
 ghost use Rattle.std.specs.Prelude.{◌≡◌, ◌+◌};
 ghost use Rattle.gc_netlist.specs.Circuit.{is_and};
 ghost use Rattle.gc_audit.specs.Stats.{is_xor, is_inv, is_eq, is_eqw};
-ghost use Rattle.gc_audit.specs.Counts.{AreBelow, one_if};
+ghost use Rattle.gc_audit.specs.Counts.{AreCountsBelow, one_if};
 
 use gc_circuit::Operation;
 
@@ -29,7 +29,7 @@ impl Counts {
 
     /// Counts one more gate, which has this operation.
     pub(crate) fn add(&mut self, operation: Operation)
-        requires { AreBelow u32.MAX self.old }
+        requires { AreCountsBelow u32.MAX self.old }
         ensures xor { self.new.xor ≡ self.old.xor + one_if (is_xor operation) }
         ensures and { self.new.and ≡ self.old.and + one_if (is_and operation) }
         ensures inv { self.new.inv ≡ self.old.inv + one_if (is_inv operation) }

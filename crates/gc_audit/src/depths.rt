@@ -2,7 +2,7 @@
 
 ghost use Rattle.std.specs.Prelude.{◌≡◌, ◌<◌, ◌+◌, max, length};
 ghost use Rattle.gc_netlist.specs.Circuit.{EachRead};
-ghost use Rattle.gc_audit.specs.Depths.{AreBelow, depths_in, depths_of};
+ghost use Rattle.gc_audit.specs.Depths.{AreDepthsBelow, depths_in, depths_of};
 
 use gc_circuit::Operation;
 
@@ -35,7 +35,7 @@ impl Depths {
     /// reads wires, whose depths are below the greatest number.
     pub(crate) fn of(table: &[Depths], operation: Operation) -> Depths
         requires wires { EachRead (λ w. w < length table.now) operation }
-        requires shallow { EachRead (λ w. AreBelow u32.MAX (depths_in table.now w)) operation }
+        requires shallow { EachRead (λ w. AreDepthsBelow u32.MAX (depths_in table.now w)) operation }
         ensures { result ≡ depths_of (depths_in table.now) operation }
     {
         match operation {
@@ -60,7 +60,7 @@ impl Depths {
 
     /// The depths past an AND gate.
     fn past_and(self) -> Depths
-        requires { AreBelow u32.MAX self }
+        requires { AreDepthsBelow u32.MAX self }
         ensures depth { result.depth ≡ self.depth + 1 }
         ensures and_depth { result.and_depth ≡ self.and_depth + 1 }
     {

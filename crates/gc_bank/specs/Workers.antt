@@ -27,7 +27,7 @@ module _ {A B C : Type 0} where
   pub record IsWorkerAt (banks : Banks B A C) (here : Position) (worker : Worker B A C)
       : Type 0 where
     pub seat_of : IsSeatOf banks worker.seat
-    pub stands : (view worker.seat).position ≡ here
+    pub position_is : (view worker.seat).position ≡ here
     pub gates : worker.walk.gates ≡ gates_of_each (jobs_on banks)
     pub kept : All (HasRoundBits (jobs_on banks)) worker.kept.items
 

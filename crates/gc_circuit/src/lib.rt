@@ -1,7 +1,7 @@
 //! Boolean circuits in Bristol Fashion: reading and writing them, their digests, and evaluating them in the clear.
 //!
-//! What a circuit is and what a text spells is defined in `gc_netlist`. Texts of values are read here too, and the first
-//! fault of a text is explained in a sentence.
+//! What a circuit is and what a text spells is defined in `gc_netlist`. Texts of values are read here too, and the
+//! first fault of a text is explained in a sentence.
 #![tactic(auto)]
 
 mod arrays;

@@ -85,8 +85,8 @@ pub fn first_wire<A: Allocator>(circuit: &Circuit<A>, index: usize) -> u32
     sum_of(&circuit.input_widths()[..index])
 }
 
-/// The sum of these widths.
-fn sum_of(widths: &[u32]) -> u32
+/// The sum of these widths. The caller ensures that it is below 2^32.
+pub fn sum_of(widths: &[u32]) -> u32
     requires { sum widths.now < 2 ^ 32 }
     ensures { result ≡ sum widths.now }
 {

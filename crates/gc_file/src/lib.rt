@@ -31,7 +31,7 @@ mod write;
 mod writer;
 mod written_law;
 
-pub use deal::{first_wire, write_labels};
+pub use deal::{first_wire, sum_of, write_labels};
 pub use failures::FailureCount;
 pub use fault::FileFault;
 pub use garbled::Garbled;

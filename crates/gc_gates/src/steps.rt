@@ -1,5 +1,5 @@
-//! The six kinds of atomic step on the words of a gate, by a seat that is inside a round. A load of a half is one
-//! kind, with a call for each half.
+//! The six kinds of atomic step on the words of a gate, by a seat that is inside a round. A store of a half is
+//! one kind, with a call for each half.
 
 ghost use Rattle.std.specs.Prelude.{◌≡◌, ℕ, ◌+◌, ◌*◌, ◌<◌, ◌≤◌, ◌⊎◌};
 ghost use Rattle.gc_rounds.specs.Words.{stamp};
@@ -16,7 +16,7 @@ use atomic_table::Shared;
 use gc_rounds::{Key, View, stamped};
 use gc_workers::{DONE, FREE, IN_HAND};
 
-/// The words of the banks, as many threads share them.
+/// The words of a table, as many threads share them.
 pub type Words<J, R> = Shared<u8, View<GateView<J>>, Key<J>, R>;
 
 /// A seat at the words, with its view. It has no bytes.

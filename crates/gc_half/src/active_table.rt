@@ -74,7 +74,7 @@ impl<A: Allocator> ActiveTable<A> {
         ensures waiting { (w : ℕ) → w ≢ gate.set → NoneSets w self.old.waiting
             → NoneSets w self.new.waiting }
     {
-        // Most gates are XOR. They have a branch of their own, where the compiler knows the operation and tests it once.
+        // Most gates are XOR: in a branch of their own the compiler knows the operation and tests it once.
         if let Operation::Xor(_, _) = gate.operation {
             self.make_read(gate.operation);
             let (a, b) = self.read(gate.operation);

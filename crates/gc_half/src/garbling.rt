@@ -17,7 +17,7 @@ pub struct RowPair {
     pub evaluator: Label,
 }
 
-/// What stands in the place of a row pair that isn't made yet.
+/// What is in the place of a row pair that isn't made yet.
 pub const NO_ROWS: RowPair = RowPair {
     generator: Label::ZERO,
     evaluator: Label::ZERO,

@@ -32,8 +32,8 @@ pub fn garble_two<A: Allocator + Copy, C: Allocator>(
     ensures one { IfOk result (λ made. IsGarbled circuit.now seed.now made.0) }
     ensures other { IfOk result (λ made. IsGarbled circuit.now other.now made.1) }
 {
-    let one = Garbler::new(alloc, circuit, seed)?;
-    let other = Garbler::new(alloc, circuit, other)?;
+    let one = PartialGarbling::new(alloc, circuit, seed)?;
+    let other = PartialGarbling::new(alloc, circuit, other)?;
     garble_both(circuit, one, other)
 }
 
@@ -41,8 +41,8 @@ pub fn garble_two<A: Allocator + Copy, C: Allocator>(
 /// as input wires.
 fn garble_both<A: Allocator, C: Allocator>(
     circuit: &Circuit<C>,
-    mut one: Garbler<A>,
-    mut other: Garbler<A>,
+    mut one: PartialGarbling<A>,
+    mut other: PartialGarbling<A>,
 ) -> Result<(Garbling<A>, Garbling<A>), Memory>
     requires one { length one.labels.items ≡ input_wires circuit.now }
     requires other { length other.labels.items ≡ input_wires circuit.now }
@@ -63,8 +63,8 @@ fn garble_both<A: Allocator, C: Allocator>(
 /// Garbles one more gate in both. The caller ensures that there are the wires, and that both have as many row pairs.
 #[inline(always)]
 fn step<A: Allocator>(
-    one: &mut Garbler<A>,
-    other: &mut Garbler<A>,
+    one: &mut PartialGarbling<A>,
+    other: &mut PartialGarbling<A>,
     wires: u32,
     gate: Gate,
 ) -> Result<(), Memory>
@@ -155,15 +155,19 @@ fn garble_gate_of_both(
 
 /// A garbling so far: its offset, the zero label of each wire and the row pair of each AND gate. No gate waits.
 #[derive(Drop)]
-struct Garbler<A: Allocator = Global> {
+struct PartialGarbling<A: Allocator = Global> {
     offset: Offset,
     labels: Vec<Label, A>,
     rows: Vec<RowPair, A>,
 }
 
-impl<A: Allocator> Garbler<A> {
+impl<A: Allocator> PartialGarbling<A> {
     /// No row pair yet, and the zero labels of the input wires under a seed.
-    fn new<C: Allocator>(alloc: A, circuit: &Circuit<C>, seed: &Seed) -> Result<Garbler<A>, Memory>
+    fn new<C: Allocator>(
+        alloc: A,
+        circuit: &Circuit<C>,
+        seed: &Seed,
+    ) -> Result<PartialGarbling<A>, Memory>
     where
         A: Copy,
         ensures offset { IfOk result (λ g. g.offset ≡ offset_of seed.now) }
@@ -171,7 +175,7 @@ impl<A: Allocator> Garbler<A> {
             ≡ map (input_label_of seed.now) (range_with_len 0 (input_wires circuit.now))) }
         ensures rows { IfOk result (λ g. g.rows.items ≡ []) }
     {
-        Ok(Garbler {
+        Ok(PartialGarbling {
             offset: offset(seed),
             labels: labels_of_inputs(alloc, circuit, seed)?,
             rows: Vec::with_capacity(alloc, circuit.and_count() as usize)?,
@@ -188,7 +192,7 @@ impl<A: Allocator> Garbler<A> {
         }) }
     {
         circuit.law_lawful();
-        let Garbler {
+        let PartialGarbling {
             offset: _,
             mut labels,
             rows,

@@ -41,7 +41,7 @@ impl<T: Copy> WaitingGates<T> {
         }
     }
 
-    /// Has no gate wait.
+    /// Empties it: no gate waits.
     #[inline(always)]
     pub fn clear(&mut self)
         ensures { gates_in self.new ≡ [] }

@@ -40,9 +40,9 @@ impl<I> Play<u8, View<I>> for MarkSealed {
     ghost then = { sealed };
 }
 
-pub struct GiveOn;
+pub struct Advance;
 
-impl<I> Play<u8, View<I>> for GiveOn {
+impl<I> Play<u8, View<I>> for Advance {
     ghost use Rattle.gc_rounds.specs.Steps.{tried};
 
     ghost then = { tried };

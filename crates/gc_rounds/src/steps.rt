@@ -9,7 +9,7 @@ ghost use Rattle.gc_rounds.specs.Steps.{recorded, position_after, IsOwn};
 ghost use Rattle.gc_rounds.specs.Places.{IsPlaceOf, IsSamePlace};
 
 use crate::inner::KeptInner;
-use crate::kinds::{AskedRound, CountIn, CountOut, GiveOn, MarkSealed};
+use crate::kinds::{Advance, AskedRound, CountIn, CountOut, MarkSealed};
 use crate::rule::Rule;
 use crate::view::{Key, View};
 use crate::words::{MARK, MAX_JOBS, stamped};
@@ -88,5 +88,5 @@ pub(crate) fn give_on<T, I: KeptInner<T>>(
 {
     let sealed = stamped(round, MARK);
     let open = stamped(round + 2, 0);
-    words.compare_exchange::<GiveOn>(place, (round % 2) as usize, sealed, open)
+    words.compare_exchange::<Advance>(place, (round % 2) as usize, sealed, open)
 }

@@ -42,7 +42,7 @@ impl GateGroup {
 
 /// A worker's passes over the gates of a circuit, but for those that it knows to be done. AND gates wait until there
 /// are four, which are stepped at once. Before a gate that reads a wire that one of them sets, and at the end of a
-/// pass, those that wait are stepped. No result rests on a walk. Contracts see how many gates there are, how many of
+/// pass, those that wait are stepped. No result depends on a walk. Contracts see how many gates there are, how many of
 /// them the pass has yet to come to, how many AND gates wait, and whether the worker learnt of a gate in the pass.
 #[derive(Drop)]
 pub struct Walk<B: Allocator = Global> {

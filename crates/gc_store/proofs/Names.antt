@@ -16,7 +16,7 @@ pub use Rattle.gc_netlist.specs.Circuit.{Netlist, EachRead, IsLawful, is_and, an
 pub use Rattle.gc_netlist.specs.declared.gate.Gate.{Gate}
 pub use Rattle.gc_netlist.specs.declared.gate.Operation.{Operation}
 pub use Rattle.gc_half.proofs.ListLemmas.{count_by-set, count_by-set_more, count_by-map, one_place, slice_get-set_same, count_by-all, count_by-all_back, count_by-found, count_by-some, count_by-both, slice_get-set_other, slice_get-table, count_by-replicate, slice_get-replicate}
-pub use Rattle.gc_store.specs.Queue.{Standing, is_busy, with_mark, Takes, freed}
+pub use Rattle.gc_store.specs.Queue.{GateProgress, is_busy, with_mark, Takes, freed}
 pub use Rattle.gc_store.specs.Readers.{picked_reads, reads_of, unknown_reads, IsLinked}
 pub use Rattle.gc_store.specs.Content.{Content, State, Free, Claimed, Finished, is_finished, is_claimed, has_rows, IsClaimed, IsFinished, IsKnown, IsReady, AllFinished, IsLawfulContent, opened}
 unfoldable pub use Rattle.gc_store.specs.Kept.{states_of}

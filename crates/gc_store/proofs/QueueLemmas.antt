@@ -8,10 +8,10 @@ use Rattle.std.proofs.Math.ListN.{length-replicate}
 use Rattle.gc_store.specs.declared.gate_state.GateState.{GateState}
 use Rattle.gc_store.specs.declared.gate_state.GateState.TheVariants as mark
 use Rattle.gc_workers.specs.NumberSet.{Has, Adds, Removes}
-use Rattle.gc_store.specs.Queue.{Standing, is_busy, freed, with_mark, IsQueue}
+use Rattle.gc_store.specs.Queue.{GateProgress, is_busy, freed, with_mark, IsQueue}
 use Rattle.gc_half.proofs.ListLemmas.{one_place, slice_get-replicate, count_by-set, count_by-set_more, count_by-set_less, count_by-replicate, count_by-some}
 
-module _ {s : Standing} {queued : List ℕ} {busy : ℕ} (q : IsQueue s queued busy) where
+module _ {s : GateProgress} {queued : List ℕ} {busy : ℕ} (q : IsQueue s queued busy) where
   -- ---- counting down: what is read of a countdown that is not 0 is n
 
   module _ (i n : ℕ) (positive : 0 < get_or s.countdowns i 0)

@@ -1,5 +1,5 @@
 -- What the calls of a store say of its content, from its tables.
-use Rattle.gc_store.proofs.Names.{◌≡◌, ℕ, ◌+◌, ◌<◌, ◌↔◌, inl, inr, IsTrue, List, length, set, get_or, slice_get, slice_index, Option, Some, None, Bool, count_by, refl, sym, ap, ◌∙◌, arith, cases_eq, slice_get_within, slice_get_cases, get_or_from_slice_get, Operation, Gate, Netlist, EachRead, IsSet, IsSetBefore, output_wires, and_number, EachRead-map, read-table, IsSetBefore-below, offset_of, input_label_of, RowPair, zero_label_of, and_number-below, canonical-garbling, Standing, is_busy, with_mark, Takes, reads_of, unknown_reads, slice_get-set_same, count_by-both, Task, task_of, sealed_zero_label, sealed_rows, Content, Claimed, is_claimed, is_finished, IsClaimed, IsKnown, IsReady, AllFinished, with_sealed, IsOwnTask, Claims, Tables, queue_of, content_of, IsKept, IsAwaited, IsStored, picked_reads, ReadsKnown}
+use Rattle.gc_store.proofs.Names.{◌≡◌, ℕ, ◌+◌, ◌<◌, ◌↔◌, inl, inr, IsTrue, List, length, set, get_or, slice_get, slice_index, Option, Some, None, Bool, count_by, refl, sym, ap, ◌∙◌, arith, cases_eq, slice_get_within, slice_get_cases, get_or_from_slice_get, Operation, Gate, Netlist, EachRead, IsSet, IsSetBefore, output_wires, and_number, EachRead-map, read-table, IsSetBefore-below, offset_of, input_label_of, RowPair, zero_label_of, and_number-below, canonical-garbling, GateProgress, is_busy, with_mark, Takes, reads_of, unknown_reads, slice_get-set_same, count_by-both, Task, task_of, sealed_zero_label, sealed_rows, Content, Claimed, is_claimed, is_finished, IsClaimed, IsKnown, IsReady, AllFinished, with_sealed, IsOwnTask, Claims, Tables, queue_of, content_of, IsKept, IsAwaited, IsStored, picked_reads, ReadsKnown}
 use mathlib.Core.Logic.Iff
 use Rattle.gc_netlist.specs.declared.gate.Operation.TheVariants.{And}
 use Rattle.gc_half.specs.Hash.{hash}
@@ -92,7 +92,7 @@ module _ {c : Netlist} {seed : List ℕ} {r : ℕ} {t : Tables} (kept : IsKept c
       }
 
   -- a gate of the queue is ready,
-  queued_ready : (i : ℕ) → queue.IsReady (queue_of t) i → IsReady s i
+  queued_ready : (i : ℕ) → queue.IsClaimable (queue_of t) i → IsReady s i
   queued_ready i ready =
       let within : i < length c.gates = grind (arith, slice_get_within, kept.marks) in
       let gate = gate_at c i within in
@@ -105,7 +105,7 @@ module _ {c : Netlist} {seed : List ℕ} {r : ℕ} {t : Tables} (kept : IsKept c
       }
 
   -- and no other is
-  ready_queued : (i : ℕ) → IsReady s i → queue.IsReady (queue_of t) i
+  ready_queued : (i : ℕ) → IsReady s i → queue.IsClaimable (queue_of t) i
   ready_queued i next =
       let none = (none_unknown kept.known (IsKnown s) kept.marks_known next.gate.operation).1
       next.reads in
@@ -184,7 +184,7 @@ module _ {c : Netlist} {seed : List ℕ} {r : ℕ} {t : Tables} (kept : IsKept c
       grind (arith, own.same, kept.rows, and_number-below c sealed.gate own.gate own.at)
 
   -- The task's gate is marked as finished, and the gates that read its wire are counted down.
-  module _ (g : Gate) (marked q : Standing) (label : ℕ) (pair : Option RowPair)
+  module _ (g : Gate) (marked q : GateProgress) (label : ℕ) (pair : Option RowPair)
       (claimed : IsClaimed (content_of c seed t) sealed.gate)
       (at : slice_get c.gates task.gate ≡ Some g)
       (marks : marked ≡ with_mark (queue_of t) task.gate mark.Finished)
@@ -219,11 +219,11 @@ module _ {c : Netlist} {seed : List ℕ} {r : ℕ} {t : Tables} (kept : IsKept c
 -- ---- claiming
 
 -- the tables with another queue
-abbrev pub with_queue : Tables → Standing → Tables
+abbrev pub with_queue : Tables → GateProgress → Tables
 with_queue t q = record t { marks = q.marks; countdowns = q.countdowns }
 
 module _ {c : Netlist} {seed : List ℕ} {r : ℕ} {t : Tables} (kept : IsKept c seed r t)
-    (q : Standing) where
+    (q : GateProgress) where
   module _ (i : ℕ) (takes : Takes (queue_of t) (Some i) q) where
     next : IsReady (content_of c seed t) i
     next = queued_ready kept i takes.0

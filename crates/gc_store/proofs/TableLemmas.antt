@@ -1,5 +1,5 @@
 -- What opening a store, and claiming, reopening and finishing its gates, keep on its tables.
-use Rattle.gc_store.proofs.Names.{◌≡◌, ◌≢◌, ℕ, ◌+◌, ◌<◌, ◌≤◌, ◌↔◌, ◌⊎◌, ◌==◌, inl, inr, IsTrue, List, length, length-set, map, set, get_or, slice_get, Option, Some, None, is_some, Bool, true, false, if◌then◌else◌, sym, ap, ◌∙◌, subst, arith, replicate, refl, range_with_len, cases_eq, nat_tests, length-map, get_or-set_same, get_or-set_other, get_or-replicate, slice_get-map, slice_get-get_or, get_or_from_slice_get, slice_get_within, gets, Operation, Gate, Netlist, is_and, and_number, input_wires, IsLawful, and_count, length-table, set-table, read-table, offset_of, RowPair, zero_label_of, and_number-below, zero_label_of-gate, zero_label_of-input, Standing, freed, reads_of, unknown_reads, IsLinked, one_place, slice_get-set_other, slice_get-set_same, count_by-set_more, slice_get-table, count_by-replicate, slice_get-replicate, Task, task_of, sealed_zero_label, sealed_rows, State, Free, Claimed, Finished, IsClaimed, IsKnown, IsReady, IsLawfulContent, is_finished, opened, with_sealed, reopened, Tables, finished_state, state_at, states_of, content_of, IsKept}
+use Rattle.gc_store.proofs.Names.{◌≡◌, ◌≢◌, ℕ, ◌+◌, ◌<◌, ◌≤◌, ◌↔◌, ◌⊎◌, ◌==◌, inl, inr, IsTrue, List, length, length-set, map, set, get_or, slice_get, Option, Some, None, is_some, Bool, true, false, if◌then◌else◌, sym, ap, ◌∙◌, subst, arith, replicate, refl, range_with_len, cases_eq, nat_tests, length-map, get_or-set_same, get_or-set_other, get_or-replicate, slice_get-map, slice_get-get_or, get_or_from_slice_get, slice_get_within, gets, Operation, Gate, Netlist, is_and, and_number, input_wires, IsLawful, and_count, length-table, set-table, read-table, offset_of, RowPair, zero_label_of, and_number-below, zero_label_of-gate, zero_label_of-input, GateProgress, freed, reads_of, unknown_reads, IsLinked, one_place, slice_get-set_other, slice_get-set_same, count_by-set_more, slice_get-table, count_by-replicate, slice_get-replicate, Task, task_of, sealed_zero_label, sealed_rows, State, Free, Claimed, Finished, IsClaimed, IsKnown, IsReady, IsLawfulContent, is_finished, opened, with_sealed, reopened, Tables, finished_state, state_at, states_of, content_of, IsKept}
 use Rattle.std.proofs.Math.ListN.{get_or-map, length-replicate}
 use Rattle.std.proofs.lemmas.List.FromFn.{fill_by_all}
 use mathlib.Core.Logic.Iff
@@ -113,7 +113,7 @@ ands_set n (Some pair) = n + 1
 
 -- the tables with these marks and countdowns, once a gate that sets wire w and has the AND number k
 -- is finished with a label and perhaps a row pair
-abbrev pub finished_tables : Tables → Standing → ℕ → ℕ → ℕ → Option RowPair → Tables
+abbrev pub finished_tables : Tables → GateProgress → ℕ → ℕ → ℕ → Option RowPair → Tables
 finished_tables t q w k label pair = record t {
   marks = q.marks;
   countdowns = q.countdowns;

@@ -10,7 +10,7 @@ use Rattle.gc_half.specs.Canonical.{zero_label_of}
 use Rattle.gc_store.specs.declared.gate_state.GateState.{GateState}
 use Rattle.gc_store.specs.declared.gate_state.GateState.TheVariants as mark
 use Rattle.gc_store.specs.Queue as queue
-use Rattle.gc_store.specs.Queue.{Standing}
+use Rattle.gc_store.specs.Queue.{GateProgress}
 use Rattle.gc_store.specs.Readers.{picked_reads, unknown_reads, IsLinked}
 use Rattle.gc_store.specs.Content.{State, Free, Claimed, Finished, Content, is_finished, IsFinished, IsKnown, IsReady, IsLawfulContent}
 
@@ -51,7 +51,7 @@ module _ (c : Netlist) (zero_labels : List ℕ) (rows : List RowPair) where
       map (λ i. state_at i (slice_index_or marks i mark.Free)) (range_with_len 0 (length c.gates))
 
 -- the marks and countdowns among the tables, which are the queue's
-abbrev pub queue_of : Tables → Standing
+abbrev pub queue_of : Tables → GateProgress
 queue_of t = record { marks = t.marks; countdowns = t.countdowns }
 
 -- The content that the tables hold.
@@ -91,7 +91,7 @@ pub record IsKept (c : Netlist) (seed : List ℕ) (offset : ℕ) (t : Tables) : 
 -- gate's countdown is the number of its reads whose wire an unfinished gate sets.
 pub record IsStored (c : Netlist) (seed : List ℕ) (offset : ℕ) (t : Tables) : Type 0 where
   pub kept : IsKept c seed offset t
-  pub ready : (i : ℕ) → queue.IsReady (queue_of t) i ↔ IsReady (content_of c seed t) i
+  pub ready : (i : ℕ) → queue.IsClaimable (queue_of t) i ↔ IsReady (content_of c seed t) i
   pub countdowns : (i : ℕ) (g : Gate) (awaited : ℕ → Bool) → slice_get c.gates i ≡ Some g
       → ((w : ℕ) → IsTrue (awaited w) ↔ IsAwaited (content_of c seed t) w)
       → slice_index_or t.countdowns i 0 ≡ picked_reads awaited g.operation

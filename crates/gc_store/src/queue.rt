@@ -28,9 +28,9 @@ pub struct Queue<A: Allocator> {
 }
 
 impl<A: Allocator> Model for Queue<A> {
-    ghost use Rattle.gc_store.specs.Queue.{Standing, IsQueue};
+    ghost use Rattle.gc_store.specs.Queue.{GateProgress, IsQueue};
 
-    ghost Value = { Standing };
+    ghost Value = { GateProgress };
 
     ghost view = { λ q. record { marks = q.marks.items; countdowns = q.countdowns.items } };
 

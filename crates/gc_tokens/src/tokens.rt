@@ -90,7 +90,7 @@ impl<'a> Tokens<'a> {
     fn before(&self) -> &'a [u8]
         ensures front { result.now ≡ take (length result.now) self.now.text }
         ensures within { length result.now ≤ length self.now.text }
-        ensures parted { tokens self.now.text ≡ tokens result.now ++ self.now.left }
+        ensures split { tokens self.now.text ≡ tokens result.now ++ self.now.left }
     {
         let (before, _) = self.text.split_at(self.text.len() - self.rest.len());
         before

@@ -15,7 +15,7 @@ use gc_circuit::{Circuit, Memory};
 use gc_half::{Garbling, garble_one_thread};
 use gc_label::Seed;
 use gc_store::{Opening, SharedStore, Store};
-use gc_workers::{Gatehouse, MAX_WORKERS, Way, report_all, way_of};
+use gc_workers::{Crew, Gatehouse, MAX_WORKERS, Way, report_all, way_of};
 use std::alloc::Allocator;
 use std::marker::Brand;
 use std::sync::Wait;
@@ -25,15 +25,6 @@ use std::thread::Threads;
 
 /// The room of a worker's pool, in tasks.
 const POOL_CAPACITY: u32 = 1024;
-
-/// The workers of a garbling: how many there are, the memory that they allocate from, and their observer.
-#[derive(Drop)]
-struct Crew<'a, A, H, R> {
-    rt: &'a R,
-    alloc: A,
-    workers: u32,
-    observer: &'a H,
-}
 
 /// The garbling of a circuit under a seed, with this number of workers. The calling thread is worker 0.
 ///

@@ -1,5 +1,5 @@
-//! What workers that garble or evaluate a circuit together share: how many there may be, the [`Crew`] of an evaluation,
-//! the [`Gatehouse`], which observes them, whether they share a circuit at all, sets of numbers, and, of boards and
+//! What workers that garble or evaluate a circuit together share: how many there may be, their [`Crew`], the
+//! [`Gatehouse`], which observes them, whether they share a circuit at all, sets of numbers, and, of boards and
 //! banks, the states of a gate, why these can't be opened or closed, and sums over lists.
 #![tactic(auto)]
 

@@ -4,6 +4,7 @@ use Rattle.gc_netlist.specs.Circuit.{first_wire, second_wire}
 use Rattle.gc_netlist.specs.Met.{wire_of_one, wire_of_two, wire_at_fault}
 use Rattle.gc_circuit.proofs.checks.wire_at_fault.Goals as goal
 
+-- The wire at fault of a gate that reads two wires, and of one that reads one.
 reads_two : (n : ℕ) (is_set : ℕ → Bool) (set a b : ℕ) (op : Operation) → first_wire op ≡ Some a
     → second_wire op ≡ Some b → wire_of_two n is_set a b set ≡ wire_at_fault n is_set set op
 reads_two n is_set set a b op first second = search rules

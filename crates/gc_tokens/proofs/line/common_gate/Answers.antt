@@ -5,6 +5,7 @@ use Rattle.gc_netlist.specs.Reading.{number_at, gate_at, two_at}
 use Rattle.gc_tokens.proofs.CutLemmas.{keeps_behind}
 use Rattle.gc_tokens.proofs.line.common_gate.Goals as goal
 
+-- A text that begins with `2 1 ` spells a gate that reads two wires, from its fifth byte on.
 two_taken : (text : List ℕ) → take 4 text ≡ codes "2 1 " →
     gate_at (tokens text) ≡ two_at (tokens (drop 4 text))
 unfolding gate_at value_of tokens
