@@ -1,14 +1,11 @@
 -- Pieces of bytes that are written one after another.
-use Rattle.std.proofs.Common.{◌≡◌, ℕ, ◌+◌, ◌*◌, ◌<◌, List, [], ◌∷◌, ◌++◌, Bool, length, take, get_or, slice_get, Some, refl, sym, ap, ◌∙◌, append-nil, arith}
-use Rattle.std.specs.List.{flat_map}
-use Rattle.std.proofs.lemmas.List.{take_more}
+use Rattle.std.proofs.Common.{◌≡◌, ℕ, ◌+◌, ◌*◌, ◌<◌, List, [], ◌∷◌, ◌++◌, Bool, true, ◌&&◌, length, take, get_or, slice_get, Some, refl, sym, ap, ◌∙◌, append-nil, arith, ◌≤◌, drop, ◌-◌, map, set}
+use Rattle.std.specs.List.{flat_map, sum}
+use Rattle.std.proofs.lemmas.List.{take_more, length-map, get_or_default, drop_all, length-append, length-drop, map-append, take_more_set}
 use Rattle.std.proofs.lemmas.List.Concat.{flat_map-append}
 use Rattle.gc_label.specs.Label.{bytes_of_label}
 use Rattle.gc_half.specs.declared.garbling.RowPair.{RowPair}
 use Rattle.gc_file.specs.GarbledFile.{row_bytes}
-use Rattle.std.specs.List.{sum}
-use Rattle.std.proofs.Common.{◌≤◌, drop}
-use Rattle.std.proofs.lemmas.List.{length-map}
 use Rattle.std.proofs.lemmas.Option.{slice_get_within, get_or_from_slice_get}
 use Rattle.std.proofs.lemmas.Slice.Zip.{length-zip}
 use Rattle.gc_label.proofs.LabelLemmas.{length-bytes_of_label}
@@ -18,13 +15,9 @@ use Rattle.gc_file.specs.LabelFile.{label_magic, label_file}
 use Rattle.gc_file.specs.Number.{number_bytes}
 use Rattle.gc_file.proofs.SizeLemmas.{length-flat_map}
 use Rattle.gc_file.proofs.ItemLemmas.{items_from, items_spelled, row_of, row_spelling}
-use Rattle.std.proofs.lemmas.List.{get_or_default}
 use Rattle.gc_kept.specs.Labels.{AreRows}
 use Rattle.gc_kept.proofs.FileLemmas.{sum-within}
 use borrow.Rule.Slice.PartMut.{put_mid}
-use Rattle.std.proofs.Common.{◌-◌}
-use Rattle.std.proofs.lemmas.List.{drop_all, length-append, length-drop, map-append, take_more_set}
-use Rattle.std.proofs.Common.{map, set}
 use Rattle.gc_netlist.specs.Spelling.{bit_number}
 use Rattle.std.proofs.lemmas.List.FromFn.{length-map-range_with_len}
 use Rattle.gc_netlist.specs.Circuit.{Netlist, output_wires}
@@ -81,13 +74,17 @@ value-fits widths index width at =
     let is = get_or_from_slice_get widths index width 0 at in
     omega (arith, within, is)
 
--- What is written from byte 16 on, to the end.
-pub put_end : (file part : List ℕ) → 16 ≤ length file
-    → put_mid 16 (length file - 16) file part ≡ take 16 file ++ part
-put_end file part long =
-    ap (λ l. take 16 file ++ (part ++ l))
-    (drop_all (length file - 16) (drop 16 file) (omega (arith, length-drop 16 file)))
-    ∙ ap (λ l. take 16 file ++ l) (append-nil part)
+-- What is written from a place on, to the end.
+pub put_rest : (n : ℕ) (buffer part : List ℕ) → n ≤ length buffer
+    → put_mid n (length buffer - n) buffer part ≡ take n buffer ++ part
+put_rest n buffer part within =
+    ap (λ l. take n buffer ++ (part ++ l))
+    (drop_all (length buffer - n) (drop n buffer) (omega (arith, length-drop n buffer)))
+    ∙ ap (λ l. take n buffer ++ l) (append-nil part)
+
+-- Both of two tests hold.
+pub and_true : (a b : Bool) → (a && b) ≡ true → (a ≡ true) × (b ≡ true)
+and_true a b h = grind arith
 
 -- A label file is its header and its labels.
 pub label_file-is : (index n : ℕ) (labels front : List ℕ) → n ≡ length labels

@@ -15,14 +15,7 @@ use Rattle.gc_kept.specs.Files.{IsFileAt}
 use Rattle.gc_kept.specs.Garbler.{GarblerWith, MakesPiece}
 use Rattle.gc_kept.specs.Evaluator.{EvaluatorWith, UsesRows}
 use Rattle.gc_kept.proofs.GarblingsLemmas.{put_after}
-
--- What is written from a place on, to the end.
-pub put_rest : (n : ℕ) (buffer part : List ℕ) → n ≤ length buffer
-    → put_mid n (length buffer - n) buffer part ≡ take n buffer ++ part
-put_rest n buffer part within =
-    ap (λ l. take n buffer ++ (part ++ l))
-    (drop_all (length buffer - n) (drop n buffer) (omega (arith, length-drop n buffer)))
-    ∙ ap (λ l. take n buffer ++ l) (append-nil part)
+use Rattle.gc_kept.proofs.PieceLemmas.{put_rest}
 
 -- All bytes from a place on.
 pub rest_of : (n : ℕ) (buffer : List ℕ) → take (length buffer - n) (drop n buffer) ≡ drop n buffer

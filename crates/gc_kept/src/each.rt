@@ -8,7 +8,7 @@ ghost use Rattle.gc_kept.specs.Each.{AreOutcomes, HasOutputsRoomFault, IsOutcome
 use crate::bits::write_bits;
 use crate::fault::KeptFault;
 use crate::job::KeptJob;
-use crate::jobs::{known_of, look_for_room};
+use crate::jobs::{has_output_room, known_of};
 use std::alloc::Global;
 
 /// Evaluates these jobs on one thread, each as [`KeptJob::evaluate`] does, and writes the bits of the output wires, one
@@ -26,7 +26,7 @@ pub fn evaluate_each(
         (length bits.old)) }
     ensures unwritten { OnErr result (bits.new ≡ bits.old) }
 {
-    look_for_room(jobs, bits)?;
+    has_output_room(jobs, bits)?;
     let mut known = known_of(alloc, jobs)?;
     let mut outcomes = Vec::with_capacity(alloc, jobs.len())?;
     let mut place = 0;

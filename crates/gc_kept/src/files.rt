@@ -8,7 +8,7 @@ ghost use Rattle.gc_kept.specs.Files.{IsWholeFileAt, LacksRoom, HasWriteFault, I
 use crate::circuit::KeptCircuit;
 use crate::fault::KeptFault;
 use crate::garbling::KeptGarbling;
-use crate::room::look_for_room;
+use crate::room::has_file_room;
 use gc_file::sizes::garbled_size;
 use gc_file::{GarbledSource, MemSink, Trailer, Version, write_garbled_file};
 use std::alloc::Global;
@@ -20,7 +20,7 @@ fn copy_file(file: &[u8], buffer: &mut [u8]) -> Result<usize, KeptFault>
     ensures fault { IfErr result (LacksRoom (length file.now) (length buffer.old)) }
     ensures unwritten { OnErr result (buffer.new ≡ buffer.old) }
 {
-    look_for_room(file.len(), buffer)?;
+    has_file_room(file.len(), buffer)?;
     buffer[..file.len()].copy_from_slice(file);
     Ok(file.len())
 }
@@ -66,7 +66,7 @@ impl KeptGarbling {
         self.law_garbled();
         let digest = self.file_digest()?;
         let source = self.source(digest, version);
-        look_for_room(self.file_size(version), buffer)?;
+        has_file_room(self.file_size(version), buffer)?;
         let mut sink = MemSink::new(alloc, None);
         match write_garbled_file(&mut sink, &source, Trailer::Written) {
             Ok(_) => copy_file(sink.bytes(), buffer),

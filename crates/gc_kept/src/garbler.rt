@@ -4,8 +4,7 @@ ghost use Rattle.std.specs.Prelude.{◌≡◌, ◌-◌, ◌*◌, ◌/◌, length
 ghost use Rattle.gc_netlist.specs.Circuit.{and_count};
 ghost use Rattle.gc_label.specs.Label.{bytes_of_label};
 ghost use Rattle.gc_kept.specs.Garbling.{IsWantOfMemory};
-ghost use Rattle.gc_kept.specs.Garbler.{IsBegunUnder, IsBegunFrom, MakesPiece, IsNextPiece, HasPieceFault};
-ghost use Rattle.gc_kept.specs.Garbler.{AreGivenLabels, AreMadeLabels, HasMadeLabelsFault, AreMadeBits, HasMadeBitsFault};
+ghost use Rattle.gc_kept.specs.Garbler.{IsBegunUnder, IsBegunFrom, MakesPiece, IsNextPiece, HasPieceFault, AreGivenLabels, AreMadeLabels, HasMadeLabelsFault, AreMadeBits, HasMadeBitsFault};
 ghost use Rattle.gc_kept.specs.Labels.{HasFromLabelsFault, HasValueLabelsFault};
 
 use crate::CHUNK;
@@ -15,9 +14,8 @@ use crate::fault::KeptFault;
 use crate::given::StartBytes;
 use crate::label_bytes::write_rows;
 use crate::room::has_room;
-use crate::values::sum_of;
-use gc_file::first_wire;
 use gc_file::sizes::PAIR;
+use gc_file::{first_wire, sum_of};
 use gc_half::{NO_ROWS, RowPair, Start, StreamingGarbler};
 use gc_label::Seed;
 use std::alloc::Global;

@@ -4,7 +4,7 @@ ghost use Rattle.std.specs.Prelude.{◌≡◌, ◌+◌, ◌≤◌, ◌++◌, len
 ghost use Rattle.sha2.specs.Sha256.{sha256};
 ghost use Rattle.gc_kept.specs.Files.{HasRoomFault, IsFileAt};
 ghost use Rattle.gc_kept.specs.Garbling.{HasFiles};
-ghost use Rattle.gc_kept.specs.Garblings.{AreAllGarbledAt, AreFromZero, HasAllGarbledFault, HaveDigests, body_of, files_of, with_trailer};
+ghost use Rattle.gc_kept.specs.Garblings.{AreAllGarbledAt, AreFromZero, HasAllGarbledFault, HaveDigests, HaveNoFiles, body_of, files_of, with_trailer};
 
 use crate::fault::KeptFault;
 use crate::garbling::KeptGarbling;
@@ -28,9 +28,8 @@ pub fn write_many(
         (HasAllGarbledFault (map (λ g. g.now) garblings.now) version (length files.old)) }
     ensures unwritten { OnErr result (files.new ≡ files.old) }
 {
-    look_at_numbers(garblings)?;
-    look_at_digests(garblings)?;
-    look_for_room(garblings, version, files)?;
+    have_files(garblings)?;
+    has_files_room(garblings, version, files)?;
     let bodies = bodies_of(alloc, garblings, version)?;
     let bodies = slices_of(alloc, &bodies)?;
     let trailers = trailers_of(alloc, &bodies)?;
@@ -38,24 +37,16 @@ pub fn write_many(
     Ok(())
 }
 
-/// Checks that the AND gates of each garbling are numbered from 0 on.
-fn look_at_numbers(garblings: &[&KeptGarbling]) -> Result<(), KeptFault>
-    ensures ok { OnOk result (AreFromZero (map (λ g. g.now) garblings.now)) }
-    ensures fault { IfErr result (λ fault. fault ≡ KeptFault.BadArgument) }
-    ensures one { OnErr result (¬ AreFromZero (map (λ g. g.now) garblings.now)) }
+/// Checks that each garbling has garbled files: that the AND gates of all are numbered from 0 on, and then that the
+/// circuits of all had their digests.
+fn have_files(garblings: &[&KeptGarbling]) -> Result<(), KeptFault>
+    ensures numbers { OnOk result (AreFromZero (map (λ g. g.now) garblings.now)) }
+    ensures digests { OnOk result (HaveDigests (map (λ g. g.now) garblings.now)) }
+    ensures fault { IfErr result (HaveNoFiles (map (λ g. g.now) garblings.now)) }
 {
     if !garblings.iter().all(|garbling| garbling.is_from_zero()) {
         return Err(KeptFault::BadArgument);
     }
-    Ok(())
-}
-
-/// Checks that the circuit of each garbling had its digest.
-fn look_at_digests(garblings: &[&KeptGarbling]) -> Result<(), KeptFault>
-    ensures ok { OnOk result (HaveDigests (map (λ g. g.now) garblings.now)) }
-    ensures fault { IfErr result (λ fault. fault ≡ KeptFault.NoDigest) }
-    ensures one { OnErr result (¬ HaveDigests (map (λ g. g.now) garblings.now)) }
-{
     if !garblings.iter().all(|garbling| garbling.has_digest()) {
         return Err(KeptFault::NoDigest);
     }
@@ -63,7 +54,7 @@ fn look_at_digests(garblings: &[&KeptGarbling]) -> Result<(), KeptFault>
 }
 
 /// Checks that a buffer has room for the garbled files of these garblings.
-fn look_for_room(
+fn has_files_room(
     garblings: &[&KeptGarbling],
     version: Version,
     buffer: &[u8],

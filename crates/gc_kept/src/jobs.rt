@@ -21,7 +21,7 @@ pub fn evaluate_list(alloc: Global, jobs: &[&KeptJob], bits: &mut [u8]) -> Resul
     ensures fault { IfErr result (HasJobListFault (map (λ j. j.now) jobs.now) (length bits.old)) }
     ensures unwritten { OnErr result (bits.new ≡ bits.old) }
 {
-    look_for_room(jobs, bits)?;
+    has_output_room(jobs, bits)?;
     if jobs.is_empty() {
         return Ok(());
     }
@@ -33,7 +33,7 @@ pub fn evaluate_list(alloc: Global, jobs: &[&KeptJob], bits: &mut [u8]) -> Resul
 }
 
 /// Checks that a buffer has a byte for each output wire of these jobs.
-pub(crate) fn look_for_room(jobs: &[&KeptJob], buffer: &[u8]) -> Result<(), KeptFault>
+pub(crate) fn has_output_room(jobs: &[&KeptJob], buffer: &[u8]) -> Result<(), KeptFault>
     ensures ok { OnOk result (outputs_of (map (λ j. j.now) jobs.now) ≤ length buffer.now) }
     ensures fault { IfErr result
         (HasRoomFault (outputs_of (map (λ j. j.now) jobs.now)) (length buffer.now)) }

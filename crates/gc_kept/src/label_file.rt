@@ -14,7 +14,7 @@ use crate::circuit::KeptCircuit;
 use crate::fault::KeptFault;
 use crate::garbling::KeptGarbling;
 use crate::label_bytes::put_labels;
-use crate::room::look_for_room;
+use crate::room::has_file_room;
 use gc_file::sizes::{LABEL, LABEL_HEADER};
 use gc_file::{first_wire, label_header, labels_from_bytes};
 use gc_half::encode;
@@ -129,7 +129,7 @@ impl KeptCircuit {
     {
         let width = self.input_width(input.index)?;
         let bits = read_bits(alloc, input.bytes, width)?;
-        look_for_room(LABEL_HEADER + LABEL * width, buffer)?;
+        has_file_room(LABEL_HEADER + LABEL * width, buffer)?;
         Ok(bits)
     }
 
@@ -176,7 +176,7 @@ impl KeptCircuit {
         if input.bytes.len() != LABEL * width {
             return Err(KeptFault::WrongSize);
         }
-        look_for_room(LABEL_HEADER + LABEL * width, buffer)?;
+        has_file_room(LABEL_HEADER + LABEL * width, buffer)?;
         let Ok(labels) = labels_from_bytes(alloc, input.bytes) else {
             return Err(KeptFault::Memory);
         };

@@ -29,11 +29,9 @@ mod label_files;
 mod many;
 mod open;
 mod plain;
-mod ranges;
 mod room;
 mod values;
 mod version;
-mod wires;
 
 pub use audit::RowsAudit;
 pub use bits::write_bits;

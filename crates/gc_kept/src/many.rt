@@ -12,8 +12,8 @@ use gc_label::{Seed, offset};
 use std::alloc::Global;
 
 impl KeptCircuit {
-    /// Garbles the circuit under each of these seeds on one thread, one after another or two at a time. Each garbling is
-    /// what [`KeptCircuit::garble`] returns for its seed.
+    /// Garbles the circuit under each of these seeds on one thread, one after another or two at a time. Each garbling
+    /// is what [`KeptCircuit::garble`] returns for its seed.
     pub fn garble_many(
         &self,
         alloc: Global,

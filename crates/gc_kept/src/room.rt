@@ -17,7 +17,7 @@ pub(crate) fn has_room(size: usize, buffer: &[u8]) -> Result<(), KeptFault>
 }
 
 /// The same for a file of this size, which the fault has.
-pub(crate) fn look_for_room(size: usize, buffer: &[u8]) -> Result<(), KeptFault>
+pub(crate) fn has_file_room(size: usize, buffer: &[u8]) -> Result<(), KeptFault>
     ensures ok { OnOk result (size ≤ length buffer.now) }
     ensures fault { IfErr result (LacksRoom size (length buffer.now)) }
 {

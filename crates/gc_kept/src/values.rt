@@ -1,22 +1,24 @@
 //! What a garbling has for the wires of a value, for its AND gates, and for its output wires.
 
-ghost use Rattle.std.specs.Prelude.{◌≡◌, ◌+◌, ◌-◌, ◌*◌, ◌^◌, ◌<◌, ◌≤◌, ◌⊎◌, length, map, flat_map, take, sum, slice_get, Some, IfErr, OnOk, OnErr};
+ghost use Rattle.std.specs.Prelude.{◌≡◌, ◌+◌, ◌-◌, ◌*◌, ◌<◌, ◌≤◌, length, map, flat_map, slice_get, Some, IfErr, OnOk, OnErr};
 ghost use Rattle.gc_netlist.specs.Circuit.{output_wires};
 ghost use Rattle.gc_netlist.specs.Spelling.{bit_number};
-ghost use Rattle.gc_label.specs.Label.{◌⊕◌, bytes_of_label};
 ghost use Rattle.gc_half.specs.Garbling.{decode_bits_of};
 ghost use Rattle.gc_file.specs.GarbledFile.{row_bytes};
 ghost use Rattle.gc_audit.specs.Labels.{first_wire_of};
 ghost use Rattle.gc_kept.specs.Files.{IsFileAt, HasRoomFault};
 ghost use Rattle.gc_kept.specs.Labels.{AreValueLabels, HasValueLabelsFault, first_output_of, zero_labels_from};
+ghost use Rattle.gc_kept.specs.Ranges.{AreRowsAt, HasRangeFault};
 
 use crate::bits::bit_byte;
 use crate::both::{labels_of, write_both};
 use crate::fault::KeptFault;
 use crate::garbling::KeptGarbling;
+use crate::label_bytes::write_rows;
 use crate::room::has_room;
 use gc_circuit::Circuit;
-use gc_file::first_wire;
+use gc_file::sizes::PAIR;
+use gc_file::{first_wire, sum_of};
 use gc_label::Label;
 use std::alloc::Allocator;
 
@@ -27,14 +29,6 @@ fn first_output<A: Allocator>(circuit: &Circuit<A>, index: usize) -> u32
 {
     circuit.law_lawful();
     circuit.wires() - circuit.output_wires() + sum_of(&circuit.output_widths()[..index])
-}
-
-/// The sum of these widths.
-pub(crate) fn sum_of(widths: &[u32]) -> u32
-    requires { sum widths.now < 2 ^ 32 }
-    ensures { result ≡ sum widths.now }
-{
-    widths.iter().sum()
 }
 
 impl KeptGarbling {
@@ -112,6 +106,22 @@ impl KeptGarbling {
     {
         self.law_garbled();
         self.rows_range(0, self.circuit.circuit().and_count(), buffer)
+    }
+
+    /// Writes the row pairs of `count` AND gates, from AND gate `from` on in file order, to the front of a buffer, 32
+    /// bytes each. It refuses a range that isn't one of AND gates (60), and then a buffer that is too small (61).
+    pub fn rows_range(&self, from: u32, count: u32, buffer: &mut [u8]) -> Result<(), KeptFault>
+        ensures ok { OnOk result (AreRowsAt self.now from count buffer.old buffer.new) }
+        ensures fault { IfErr result (HasRangeFault self.now from count (length buffer.old)) }
+        ensures unwritten { OnErr result (buffer.new ≡ buffer.old) }
+    {
+        let (from, count) = (from as usize, count as usize);
+        let Some(rows) = self.garbling.rows().get(from..from + count) else {
+            return Err(KeptFault::BadArgument);
+        };
+        has_room(PAIR * count, buffer)?;
+        write_rows(rows, buffer);
+        Ok(())
     }
 
     /// Writes the decode bits, a byte for each output wire in order, to the front of a buffer. It refuses a buffer

@@ -1,6 +1,5 @@
 -- The struct of one pointer, as the machine holds it. `Borrow` is such a struct.
-use Rattle.halfgates_c.proofs.Walk.{◌≡◌, List, [], ◌∷◌, ◌++◌, refl, ap, ◌∙◌, Val, Ura, Logic, sem, emp}
-use Rattle.halfgates_c.proofs.Walk.{RattleType, Ptr, block_ptr, null_ptr, ptr_val, lit<}
+use Rattle.halfgates_c.proofs.Walk.{◌≡◌, List, [], ◌∷◌, ◌++◌, refl, ap, ◌∙◌, Val, Ura, Logic, sem, emp, RattleType, Ptr, block_ptr, null_ptr, ptr_val, lit<}
 use mir.Syntax.{Sym, Lifetime, ty_ptr, ty_struct, tcons, tnil}
 use mir.Val.{vstruct, vcons, vnil, of_list}
 use base.Logic.{ent}

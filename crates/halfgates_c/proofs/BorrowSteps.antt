@@ -1,7 +1,5 @@
 -- What a `Borrow` owns, and what a reference to it holds: nothing at null, or a right to read a value.
-use Rattle.halfgates_c.proofs.Walk.{◌≡◌, ℕ, List, ◌∷◌, refl, Ura, Logic, Item, Goal, Seq, ‵}
-use Rattle.halfgates_c.proofs.Walk.{given, ◌$◌, drop, fsplit, fpick, use1, learn, ftrue}
-use Rattle.halfgates_c.proofs.Walk.{RattleType, Ptr, block_ptr, null_ptr}
+use Rattle.halfgates_c.proofs.Walk.{◌≡◌, ℕ, List, ◌∷◌, refl, Ura, Logic, Item, Goal, Seq, ‵, given, ◌$◌, drop, fsplit, fpick, use1, learn, ftrue, RattleType, Ptr, block_ptr, null_ptr}
 use base.Fml.{Lft, ffalse}
 use base.Logic.{never_e}
 use denote.Pure.{Pure}
@@ -9,8 +7,7 @@ use denote.RattleType.{RowLaws}
 use denote.RawPtr.{Testable}
 use denote.Sharing.{ShrLaws, said}
 use denote.SharingLaws.{beside_shr_laws, nothing_shr_laws, said_shr_laws}
-use denote.Struct.Lending.{lent_at, lent_at_shr_laws, Lends, Lends-both, Lends-false, Lends-nothing}
-use denote.Struct.Lending.{Lends-said}
+use denote.Struct.Lending.{lent_at, lent_at_shr_laws, Lends, Lends-both, Lends-false, Lends-nothing, Lends-said}
 use Rattle.std.specs.declared.option.Option.{Option}
 pub use Rattle.std.specs.declared.option.Option.TheVariants.{None, Some}
 use Rattle.left_right.specs.Parted.{part_owns, part_shares}

@@ -1,7 +1,5 @@
 -- What a `Slot` owns: nothing at null, or a box of the program's heap.
-use Rattle.halfgates_c.proofs.Walk.{◌≡◌, ℕ, List, ◌∷◌, refl, Ura, Logic, sem, Item, Goal, Seq, ‵}
-use Rattle.halfgates_c.proofs.Walk.{given, ◌$◌, drop, use1, learn, Fml, ftrue, RattleType, Laws, Ptr}
-use Rattle.halfgates_c.proofs.Walk.{block_ptr, null_ptr}
+use Rattle.halfgates_c.proofs.Walk.{◌≡◌, ℕ, List, ◌∷◌, refl, Ura, Logic, sem, Item, Goal, Seq, ‵, given, ◌$◌, drop, use1, learn, Fml, ftrue, RattleType, Laws, Ptr, block_ptr, null_ptr}
 use mir.Raw.{raw as bare}
 use base.Fml.{ffalse}
 use base.Fraction.{full_share}

@@ -1,9 +1,6 @@
 -- The struct of a pointer and an allocator, as the machine holds it. `Box`, `BoxParts` and
 -- `Slot` are such structs.
-use Rattle.halfgates_c.proofs.Walk.{◌≡◌, ℕ, List, [], ◌∷◌, ◌++◌, refl, ap, ◌∙◌, lit<, T, Ura, sem}
-use Rattle.halfgates_c.proofs.Walk.{Logic, Val, vptr, Fml, Item, Goal, Seq, Step, step, ‵, ◌$◌, move}
-use Rattle.halfgates_c.proofs.Walk.{drop, fsplit, fjoin, fpick, fpack, feq_i, feq_l, nothing, layout}
-use Rattle.halfgates_c.proofs.Walk.{Laws, dnil, RattleType, Valss, Ptr, block_ptr, null_ptr, ptr_val}
+use Rattle.halfgates_c.proofs.Walk.{◌≡◌, ℕ, List, [], ◌∷◌, ◌++◌, refl, ap, ◌∙◌, lit<, T, Ura, sem, Logic, Val, vptr, Fml, Item, Goal, Seq, Step, step, ‵, ◌$◌, move, drop, fsplit, fjoin, fpick, fpack, feq_i, feq_l, nothing, layout, Laws, dnil, RattleType, Valss, Ptr, block_ptr, null_ptr, ptr_val}
 use mathlib.Core.Bool.{true, ◌&&◌}
 use mir.Syntax.{impl, tnil}
 use mir.Raw.{raw as bare}

@@ -1,13 +1,7 @@
 -- The walk of a function that makes a struct of a pointer from another such struct.
-use Rattle.halfgates_c.proofs.Walk.{◌≡◌, List, [], ◌∷◌, refl, sym, subst, T, Ura, emp, Fml, ftrue, Fn}
-use Rattle.halfgates_c.proofs.Walk.{Callee, Val, Model, Closed, Logic, ‵, ◌$◌, !, keep, rewrite, fact, fact_i}
-use Rattle.halfgates_c.proofs.Walk.{fsplit, fjoin, use0, stop, fld, of_opd, no_more, and_then, returns}
-use Rattle.halfgates_c.proofs.Walk.{alloc_all, pass_all, free_all, look_at, get, get_in, sets, agg}
-use Rattle.halfgates_c.proofs.Walk.{sub, whole, Running, tables, yes, Last, left, RattleType, Ptr}
-use Rattle.halfgates_c.proofs.Walk.{enter_at, takes, met_by, ends}
+use Rattle.halfgates_c.proofs.Walk.{◌≡◌, List, [], ◌∷◌, refl, sym, subst, T, Ura, emp, Fml, ftrue, Fn, Callee, Val, Model, Closed, Logic, ‵, ◌$◌, !, keep, rewrite, fact, fact_i, fsplit, fjoin, use0, stop, fld, of_opd, no_more, and_then, returns, alloc_all, pass_all, free_all, look_at, get, get_in, sets, agg, sub, whole, Running, tables, yes, Last, left, RattleType, Ptr, enter_at, takes, met_by, ends}
 use base.Fml.{fsep}
-use mir.Syntax.{Sym, Ty, ty_ptr, ty_struct, tcons, tnil, local, value_local, seq, assign, place}
-use mir.Syntax.{field, copy, rv_opd, aggregate, return}
+use mir.Syntax.{Sym, Ty, ty_ptr, ty_struct, tcons, tnil, local, value_local, seq, assign, place, field, copy, rv_opd, aggregate, return}
 use denote.Laws.{Is, shows}
 use denote.Param.Mute.{blank}
 use denote.Steps.{facts}

@@ -10,14 +10,9 @@ pub use mir.MapTy.{inst_fn}
 pub use prog.Model.{Model}
 pub use prog.Wp.{Calls, Loops, WpFn, Closed}
 pub use types.Logic.{Logic, sem}
-pub use types.Kit.{Item, Goal, Seq, Sq, Step, step, prop, ‵, raw, given, ◌⊛◌, some, later, ◌$◌, ! }
-pub use types.Kit.{by, qed, ◌∵◌, runs, allocs, params', at_ret, move, keep, drop, split, split3}
-pub use types.Kit.{join, fsplit, fjoin, pick, fpick, fpack, feq_i, feq_l, use0, use1, learn, await}
-pub use types.Kit.{rewrite}
-pub use types.Run.{enter, stop, fld, lit, of_opd, bin, no_more, and_then, first, branches, blocks}
-pub use types.Run.{exec, returns}
-pub use types.ByLocal.{alloc_all, pass_all, free_all, look_at, get, get_in, sets, sets_last, env}
-pub use types.ByLocal.{lands_as, lands_last}
+pub use types.Kit.{Item, Goal, Seq, Sq, Step, step, prop, ‵, raw, given, ◌⊛◌, some, later, ◌$◌, !, by, qed, ◌∵◌, runs, allocs, params', at_ret, move, keep, drop, split, split3, join, fsplit, fjoin, pick, fpick, fpack, feq_i, feq_l, use0, use1, learn, await, rewrite}
+pub use types.Run.{enter, stop, fld, lit, of_opd, bin, no_more, and_then, first, branches, blocks, exec, returns}
+pub use types.ByLocal.{alloc_all, pass_all, free_all, look_at, get, get_in, sets, sets_last, env, lands_as, lands_last}
 pub use types.Part.{agg, sub, whole}
 pub use contract.Monad.{fact, fact_i}
 pub use contract.Running.{Running, tables}

@@ -14,10 +14,7 @@ use Rattle.halfgates_c.specs.declared.slot.Slot.{Slot}
 abbrev pub OfKept : Option Held → (code : ℤ) → (CircuitWith → Type 0) → Type 0
 OfKept None code P = code ≡ pos 64
 OfKept (Some (Circuit circuit)) code P = P circuit
-OfKept (Some (Garbling garbling)) code P = code ≡ pos 65
-OfKept (Some (Job job)) code P = code ≡ pos 65
-OfKept (Some (Garbler garbler)) code P = code ≡ pos 65
-OfKept (Some (Evaluator evaluator)) code P = code ≡ pos 65
+OfKept (Some _) code P = code ≡ pos 65
 
 -- The same where it says nothing of the digest,
 abbrev pub OfCircuit : Option Held → (code : ℤ) → (Netlist → Type 0) → Type 0
@@ -31,38 +28,26 @@ OfDigested held code P =
 -- The same of a garbling,
 abbrev pub OfGarbling : Option Held → (code : ℤ) → (GarblingWith → Type 0) → Type 0
 OfGarbling None code P = code ≡ pos 64
-OfGarbling (Some (Circuit circuit)) code P = code ≡ pos 65
 OfGarbling (Some (Garbling garbling)) code P = P garbling
-OfGarbling (Some (Job job)) code P = code ≡ pos 65
-OfGarbling (Some (Garbler garbler)) code P = code ≡ pos 65
-OfGarbling (Some (Evaluator evaluator)) code P = code ≡ pos 65
+OfGarbling (Some _) code P = code ≡ pos 65
 
 -- of a job,
 abbrev pub OfJob : Option Held → (code : ℤ) → (JobParts → Type 0) → Type 0
 OfJob None code P = code ≡ pos 64
-OfJob (Some (Circuit circuit)) code P = code ≡ pos 65
-OfJob (Some (Garbling garbling)) code P = code ≡ pos 65
 OfJob (Some (Job job)) code P = P job
-OfJob (Some (Garbler garbler)) code P = code ≡ pos 65
-OfJob (Some (Evaluator evaluator)) code P = code ≡ pos 65
+OfJob (Some _) code P = code ≡ pos 65
 
 -- of a garbler,
 abbrev pub OfGarbler : Option Held → (code : ℤ) → (GarblerWith → Type 0) → Type 0
 OfGarbler None code P = code ≡ pos 64
-OfGarbler (Some (Circuit circuit)) code P = code ≡ pos 65
-OfGarbler (Some (Garbling garbling)) code P = code ≡ pos 65
-OfGarbler (Some (Job job)) code P = code ≡ pos 65
 OfGarbler (Some (Garbler garbler)) code P = P garbler
-OfGarbler (Some (Evaluator evaluator)) code P = code ≡ pos 65
+OfGarbler (Some _) code P = code ≡ pos 65
 
 -- and of an evaluator.
 abbrev pub OfEvaluator : Option Held → (code : ℤ) → (EvaluatorWith → Type 0) → Type 0
 OfEvaluator None code P = code ≡ pos 64
-OfEvaluator (Some (Circuit circuit)) code P = code ≡ pos 65
-OfEvaluator (Some (Garbling garbling)) code P = code ≡ pos 65
-OfEvaluator (Some (Job job)) code P = code ≡ pos 65
-OfEvaluator (Some (Garbler garbler)) code P = code ≡ pos 65
 OfEvaluator (Some (Evaluator evaluator)) code P = P evaluator
+OfEvaluator (Some _) code P = code ≡ pos 65
 
 -- The code is what a call on a list of things says of them, or that of the first handle in the list that holds none.
 -- What is said of one handle is `OfGarbling` or `OfJob`.
@@ -92,10 +77,7 @@ OfNoJobs held code = OfJobs held code (λ jobs. ⊥)
 abbrev pub held_circuit : Option Held → Option Netlist
 held_circuit None = None
 held_circuit (Some (Circuit circuit)) = Some circuit.netlist
-held_circuit (Some (Garbling garbling)) = None
-held_circuit (Some (Job job)) = None
-held_circuit (Some (Garbler garbler)) = None
-held_circuit (Some (Evaluator evaluator)) = None
+held_circuit (Some _) = None
 
 -- C's pointer is to a handle that holds this.
 abbrev pub Holds : Slot → Held → Type 0

@@ -49,7 +49,7 @@ pub record IsLabelsReportOn (g : GarblingWith) (bytes old new : List ℕ) (r : L
   pub bits : AreFoundAt verdict old new
 
 -- It does so, and the buffer has no room for the bits.
-pub record LacksRoom (g : GarblingWith) (bytes : List ℕ) (room : ℕ) (r : LabelsReport)
+pub record IsReportWithoutRoom (g : GarblingWith) (bytes : List ℕ) (room : ℕ) (r : LabelsReport)
     : Type 0 where
   pub verdict : LabelsVerdict Global
   pub report : IsReportOf g bytes verdict r
@@ -58,5 +58,5 @@ pub record LacksRoom (g : GarblingWith) (bytes : List ℕ) (room : ℕ) (r : Lab
 -- The fault of bytes that are no label file, or of a buffer without room.
 abbrev pub HasReportFault : GarblingWith → (bytes : List ℕ) → (room : ℕ) → LabelsReport
     → KeptFault → Type 0
-HasReportFault g bytes room report SmallBuffer = LacksRoom g bytes room report
+HasReportFault g bytes room report SmallBuffer = IsReportWithoutRoom g bytes room report
 HasReportFault g bytes room report fault = HasLabelsAuditFault bytes fault

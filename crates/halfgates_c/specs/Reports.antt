@@ -14,7 +14,7 @@ use Rattle.gc_kept.specs.declared.audit.RowsAudit.{RowsAudit}
 use Rattle.gc_kept.specs.Audit.{IsAuditOf, IsRowsAuditOf, honest_rows}
 use Rattle.halfgates_c.specs.declared.locate.TheConstants.{NONE}
 use Rattle.halfgates_c.specs.declared.audit.Report.{Report}
-use Rattle.halfgates_c.specs.declared.audit_rows.RowsReport.{RowsReport}
+use Rattle.halfgates_c.specs.declared.audit.RowsReport.{RowsReport}
 
 abbrev pub version_number : Version → ℕ
 version_number One = 1

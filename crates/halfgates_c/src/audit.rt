@@ -1,20 +1,20 @@
-//! Comparing files with a garbling.
+//! Comparing garbled files, row pairs and decode bits with a garbling.
 
 ghost use Rattle.std.specs.Prelude.{◌≡◌, ◌≢◌, OnOk, OnErr, IfErr, pos};
 ghost use Rattle.core.specs.Ptr.{as_mut_ptr};
 ghost use denote.RawPtr.{Testable};
-ghost use Rattle.gc_kept.specs.Audit.{HasGarbledAuditFault};
+ghost use Rattle.gc_kept.specs.Audit.{HasGarbledAuditFault, HasRowsAuditFault};
 ghost use Rattle.halfgates_c.specs.ReturnsCode.{ReturnsCode};
 ghost use Rattle.halfgates_c.specs.Holding.{OfGarbling};
-ghost use Rattle.halfgates_c.specs.Reports.{AreRowFields, AreRowFlags, IsReport, IsReportOn, version_number};
+ghost use Rattle.halfgates_c.specs.Reports.{AreRowFields, AreRowFlags, IsReport, IsReportOn, IsRowsReport, IsRowsReportOn, version_number};
 
-use crate::code::{NULL_POINTER, code_of};
+use crate::code::{NULL_POINTER, OK, code_of};
 use crate::handle::{Handle, on_held};
 use crate::locate::NONE;
 use crate::null::is_null;
 use gc_audit::{DifferingRows, GarbledAudit, RowDifference};
 use gc_file::Version;
-use gc_kept::{KeptFault, KeptGarbling};
+use gc_kept::{KeptFault, KeptGarbling, RowsAudit};
 use std::alloc::Global;
 
 /// What an audit finds of a garbled file: `halfgates_audit_report`.
@@ -47,12 +47,12 @@ fn version_number(version: Version) -> u8
 
 /// The fields of a report on row pairs.
 #[derive(Clone, Copy)]
-pub(crate) struct RowFields {
-    pub(crate) generator: u8,
-    pub(crate) evaluator: u8,
-    pub(crate) row: u32,
-    pub(crate) gate: u32,
-    pub(crate) wire: u32,
+struct RowFields {
+    generator: u8,
+    evaluator: u8,
+    row: u32,
+    gate: u32,
+    wire: u32,
 }
 
 /// Whether the generator's row differs, and whether the evaluator's does.
@@ -67,7 +67,7 @@ fn row_flags(rows: DifferingRows) -> (u8, u8)
 }
 
 /// The fields for the first row pair that differs, if there is one.
-pub(crate) fn row_fields(rows: Option<RowDifference>) -> RowFields
+fn row_fields(rows: Option<RowDifference>) -> RowFields
     ensures { AreRowFields rows
         result.generator result.evaluator result.row result.gate result.wire }
 {
@@ -147,5 +147,62 @@ pub extern "C" fn halfgates_audit(
     }
     on_held!(garbling, Garbling(garbling) => {
         code_of(audit(alloc, garbling, file, report))
+    })
+}
+
+/// What an audit finds of row pairs and decode bits: `halfgates_rows_report`.
+#[repr(C)]
+#[derive(Clone, Copy)]
+pub struct RowsReport {
+    pub honest: u8,
+    pub generator: u8,
+    pub evaluator: u8,
+    pub row: u32,
+    pub gate: u32,
+    pub wire: u32,
+    pub decode_bit: u32,
+}
+
+/// The report of what is found of row pairs and decode bits.
+fn rows_report_of(found: &RowsAudit) -> RowsReport
+    ensures { IsRowsReport found.now result }
+{
+    let rows = row_fields(found.rows);
+    RowsReport {
+        honest: u8::from(found.is_honest()),
+        generator: rows.generator,
+        evaluator: rows.evaluator,
+        row: rows.row,
+        gate: rows.gate,
+        wire: rows.wire,
+        decode_bit: found.bits.unwrap_or(NONE),
+    }
+}
+
+/// Compares row pairs and decode bits with a garbling.
+#[unsafe(no_mangle)]
+pub extern "C" fn halfgates_audit_rows(
+    alloc: Global,
+    garbling: &mut Handle,
+    rows: &[u8],
+    decode_bits: &[u8],
+    report: &mut RowsReport,
+) -> i32
+    requires report { Testable (as_mut_ptr report) }
+    ensures answer { OfGarbling garbling.old.held result (λ g.
+        ReturnsCode result (IsRowsReportOn g rows.now decode_bits.now report.new)
+        (HasRowsAuditFault g rows.now decode_bits.now)) }
+    ensures back { garbling.new ≡ garbling.old }
+    ensures kept { result ≢ pos 0 → report.new ≡ report.old }
+{
+    if is_null(report) {
+        return NULL_POINTER;
+    }
+    on_held!(garbling, Garbling(garbling) => match garbling.audit_rows(alloc, rows, decode_bits) {
+        Ok(found) => {
+            *report = rows_report_of(&found);
+            OK
+        }
+        Err(fault) => code_of(Err(fault)),
     })
 }

@@ -1,13 +1,13 @@
 //! Why a text is no circuit.
 
-ghost use Rattle.std.specs.Prelude.{◌≡◌, ◌≢◌, ◌≤◌, OnOk, OnErr, IfErr, pos, length};
+ghost use Rattle.std.specs.Prelude.{◌≡◌, ◌≢◌, ◌≤◌, pos, length};
 ghost use Rattle.core.specs.Ptr.{as_mut_ptr};
 ghost use denote.RawPtr.{Testable};
 ghost use Rattle.halfgates_c.specs.ReturnsCode.{ReturnsCode};
 ghost use Rattle.halfgates_c.specs.Places.{IsTextMemory};
 ghost use Rattle.halfgates_c.specs.Sentences.{filled, IsExplained, IsSentenceOn};
 
-use crate::code::{NULL_POINTER, code_of};
+use crate::code::{NULL_POINTER, OK, code_of};
 use crate::null::is_null;
 use gc_circuit::{Circuit, Located, MAX_SENTENCE, ReadFault, sentence_of};
 use gc_kept::KeptFault;
@@ -42,21 +42,6 @@ impl Sentence {
     }
 }
 
-/// Writes the sentence that explains the first fault of a text.
-fn explain(alloc: Global, text: &[u8], sentence: &mut Sentence) -> Result<(), KeptFault>
-    ensures ok { OnOk result (IsExplained text.now sentence.new.text) }
-    ensures fault { IfErr result IsTextMemory }
-    ensures kept { OnErr result (sentence.new ≡ sentence.old) }
-{
-    match Circuit::locate(alloc, text) {
-        Ok(found) => {
-            *sentence = Sentence::on(text, found);
-            Ok(())
-        }
-        Err(_) => Err(KeptFault::Circuit(ReadFault::Memory)),
-    }
-}
-
 /// Writes the sentence that explains the first fault of a text, or an empty one where the text is a circuit.
 #[unsafe(no_mangle)]
 pub extern "C" fn halfgates_explain(alloc: Global, text: &[u8], sentence: &mut Sentence) -> i32
@@ -67,5 +52,11 @@ pub extern "C" fn halfgates_explain(alloc: Global, text: &[u8], sentence: &mut S
     if is_null(sentence) {
         return NULL_POINTER;
     }
-    code_of(explain(alloc, text, sentence))
+    match Circuit::locate(alloc, text) {
+        Ok(found) => {
+            *sentence = Sentence::on(text, found);
+            OK
+        }
+        Err(_) => code_of(Err(KeptFault::Circuit(ReadFault::Memory))),
+    }
 }

@@ -7,7 +7,6 @@
 mod arrays;
 mod audit;
 mod audit_labels;
-mod audit_rows;
 mod borrow;
 mod box_parts;
 mod circuit;
@@ -28,15 +27,12 @@ mod locate;
 mod many;
 mod name;
 mod null;
-mod open;
-mod ranges;
 mod slot;
 mod values;
 mod wires;
 
-pub use audit::Report;
+pub use audit::{Report, RowsReport};
 pub use audit_labels::LabelsReport;
-pub use audit_rows::RowsReport;
 pub use circuit::Numbers;
 pub use explain::Sentence;
 pub use handle::Handle;

@@ -1,12 +1,12 @@
 //! Where a text is at fault.
 
-ghost use Rattle.std.specs.Prelude.{◌≡◌, ◌≢◌, OnOk, OnErr, IfErr, pos};
+ghost use Rattle.std.specs.Prelude.{◌≡◌, ◌≢◌, pos};
 ghost use Rattle.core.specs.Ptr.{as_mut_ptr};
 ghost use denote.RawPtr.{Testable};
 ghost use Rattle.halfgates_c.specs.ReturnsCode.{ReturnsCode};
 ghost use Rattle.halfgates_c.specs.Places.{IsFaultPlace, IsPlaceIn, IsTextMemory};
 
-use crate::code::{NULL_POINTER, code_of};
+use crate::code::{NULL_POINTER, OK, code_of};
 use crate::null::is_null;
 use gc_circuit::{Circuit, Located, ReadFault};
 use gc_kept::KeptFault;
@@ -49,21 +49,6 @@ fn place_of(found: Option<Located>) -> Place
 }
 
 /// Writes where the first fault of a text is.
-fn locate(alloc: Global, text: &[u8], place: &mut Place) -> Result<(), KeptFault>
-    ensures ok { OnOk result (IsPlaceIn text.now place.new) }
-    ensures fault { IfErr result IsTextMemory }
-    ensures kept { OnErr result (place.new ≡ place.old) }
-{
-    match Circuit::locate(alloc, text) {
-        Ok(found) => {
-            *place = place_of(found);
-            Ok(())
-        }
-        Err(_) => Err(KeptFault::Circuit(ReadFault::Memory)),
-    }
-}
-
-/// Writes where the first fault of a text is.
 #[unsafe(no_mangle)]
 pub extern "C" fn halfgates_locate(alloc: Global, text: &[u8], place: &mut Place) -> i32
     requires place { Testable (as_mut_ptr place) }
@@ -73,5 +58,11 @@ pub extern "C" fn halfgates_locate(alloc: Global, text: &[u8], place: &mut Place
     if is_null(place) {
         return NULL_POINTER;
     }
-    code_of(locate(alloc, text, place))
+    match Circuit::locate(alloc, text) {
+        Ok(found) => {
+            *place = place_of(found);
+            OK
+        }
+        Err(_) => code_of(Err(KeptFault::Circuit(ReadFault::Memory))),
+    }
 }

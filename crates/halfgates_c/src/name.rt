@@ -1,7 +1,9 @@
 //! Names of faults, and the version.
 
 ghost use Rattle.std.specs.Prelude.{◌≡◌, ◌≤◌, codes, length};
-ghost use Rattle.halfgates_c.specs.Names.{name_of_code, padded, NamesFault, IsMemoryFlag};
+ghost use Rattle.halfgates_c.specs.Names.{IsMemoryFlag, NamesFault, is_code, name_of_code, padded};
+
+use gc_netlist::fault_name;
 
 /// The room for a name.
 const ROOM: usize = 32;
@@ -26,54 +28,28 @@ fn name_of(bytes: &[u8]) -> Name
     Name { text }
 }
 
+/// Whether a call of the library returns this code for a fault.
+fn is_code(code: u32) -> bool
+    ensures { result ≡ is_code code }
+{
+    matches!(code, 1..=13 | 15 | 16 | 23 | 30..=36 | 40..=46 | 48 | 60..=68)
+}
+
 /// The name of a code.
 fn code_name(code: i32) -> &'static str
     ensures name { result.now ≡ name_of_code code }
     ensures room { length result.now ≤ 31 }
 {
-    match code {
-        0 => "Ok",
-        1 => "Truncated",
-        2 => "BadNumber",
-        3 => "TooLarge",
-        4 => "BadShape",
-        5 => "UnknownOperation",
-        6 => "BadConstant",
-        7 => "NoSuchWire",
-        8 => "Unset",
-        9 => "SetTwice",
-        10 => "OutputUnset",
-        11 => "TrailingTokens",
-        12 => "WidthsExceedWires",
-        13 => "Memory",
-        15 => "BadDigit",
-        16 => "WrongLength",
-        23 => "Memory",
-        30 => "BadMagic",
-        31 => "Truncated",
-        32 => "Trailing",
-        33 => "CountTooLarge",
-        34 => "SpareBits",
-        35 => "BadTrailer",
-        36 => "Memory",
-        40 => "OtherCircuit",
-        41 => "OtherCounts",
-        42 => "NoSuchValue",
-        43 => "WrongWidth",
-        44 => "DoubleValue",
-        45 => "MissingValue",
-        46 => "Memory",
-        48 => "UnknownOutputLabel",
-        60 => "BadArgument",
-        61 => "SmallBuffer",
-        62 => "Memory",
-        63 => "WrongLabel",
-        64 => "NullPointer",
-        65 => "WrongHandle",
-        66 => "WrongSize",
-        67 => "Unfinished",
-        68 => "NoDigest",
-        _ => "Unknown",
+    let Ok(code) = u32::try_from(code) else {
+        return "Unknown";
+    };
+    if code == 0 {
+        return "Ok";
+    }
+    if is_code(code) {
+        fault_name(code)
+    } else {
+        "Unknown"
     }
 }
 

@@ -1,4 +1,4 @@
-//! What a garbling has for the wires of a value, for its AND gates, and for its output wires.
+//! What a garbling has for the wires of a value, for its AND gates, and for its output wires, whose labels it opens.
 
 ghost use Rattle.std.specs.Prelude.{◌≡◌, ◌≢◌, ◌*◌, length, flat_map, map, pos};
 ghost use Rattle.core.specs.Ptr.{as_mut_ptr};
@@ -10,13 +10,14 @@ ghost use Rattle.gc_file.specs.GarbledFile.{row_bytes};
 ghost use Rattle.gc_audit.specs.Labels.{first_wire_of};
 ghost use Rattle.gc_kept.specs.Files.{IsFileAt, HasRoomFault};
 ghost use Rattle.gc_kept.specs.Labels.{AreValueLabels, HasValueLabelsFault, first_output_of};
+ghost use Rattle.gc_kept.specs.Opening.{AreOpened, HasOpenFault};
+ghost use Rattle.gc_kept.specs.Ranges.{AreRowsAt, HasRangeFault};
 ghost use Rattle.halfgates_c.specs.ReturnsCode.{ReturnsCode};
 ghost use Rattle.halfgates_c.specs.Holding.{OfGarbling};
 
 use crate::code::{NULL_POINTER, OK, code_of};
 use crate::handle::{Handle, on_held};
 use crate::null::is_null;
-use gc_kept::Held;
 
 /// Writes the offset of a garbling.
 #[unsafe(no_mangle)]
@@ -101,5 +102,43 @@ pub extern "C" fn halfgates_decode_bits(garbling: &mut Handle, bits: &mut [u8]) 
 {
     on_held!(garbling, Garbling(garbling) => {
         code_of(garbling.decode_bits(bits))
+    })
+}
+
+/// Writes the row pairs of some AND gates of a garbling.
+#[unsafe(no_mangle)]
+pub extern "C" fn halfgates_rows_range(
+    garbling: &mut Handle,
+    from: u32,
+    count: u32,
+    rows: &mut [u8],
+) -> i32
+    ensures answer { OfGarbling garbling.old.held result (λ g.
+        ReturnsCode result (AreRowsAt g from count rows.old rows.new)
+        (HasRangeFault g from count (length rows.old))) }
+    ensures back { garbling.new ≡ garbling.old }
+    ensures kept { result ≢ pos 0 → rows.new ≡ rows.old }
+{
+    on_held!(garbling, Garbling(garbling) => {
+        code_of(garbling.rows_range(from, count, rows))
+    })
+}
+
+/// Opens labels of an output value, and writes the bits that they stand for.
+#[unsafe(no_mangle)]
+pub extern "C" fn halfgates_open(
+    garbling: &mut Handle,
+    index: u32,
+    labels: &[u8],
+    bits: &mut [u8],
+) -> i32
+    ensures answer { OfGarbling garbling.old.held result (λ g.
+        ReturnsCode result (AreOpened g index labels.now bits.old bits.new)
+        (HasOpenFault g index labels.now (length bits.old))) }
+    ensures back { garbling.new ≡ garbling.old }
+    ensures kept { result ≢ pos 0 → bits.new ≡ bits.old }
+{
+    on_held!(garbling, Garbling(garbling) => {
+        code_of(garbling.open(index, labels, bits))
     })
 }

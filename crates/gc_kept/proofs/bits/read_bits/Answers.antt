@@ -5,6 +5,7 @@ use Rattle.std.proofs.lemmas.Grind.{common_steps}
 use Rattle.std.proofs.lemmas.List.{take_more}
 use Rattle.std.proofs.lemmas.Option.{slice_get-get_or}
 use Rattle.gc_netlist.specs.Spelling.{bit_number}
+use Rattle.gc_kept.proofs.PieceLemmas.{and_true}
 use Rattle.gc_kept.proofs.bits.read_bits.Goals as goal
 
 -- A byte below 2 is the number of its bit.
@@ -15,9 +16,6 @@ number_of byte h = grind (arith, nat_tests)
 of_none : (byte : ℕ) → nat_lt byte 2 ≡ false → (bit : Bool) → byte ≢ bit_number bit
 of_none byte h true = λ is. grind (arith, nat_tests)
 of_none byte h false = λ is. grind (arith, nat_tests)
-
-and_true : (a b : Bool) → (a && b) ≡ true → (a ≡ true) × (b ≡ true)
-and_true a b h = grind arith
 
 -- One more byte.
 more : (bytes : List ℕ) (bits : List Bool) (i : ℕ) → i < length bytes

@@ -11,7 +11,7 @@ overflow_add-end c =
     let job = c.index-jobs-i.result in
     let at = job_at jobs (λ j. j.now) l.i job (omega arith) c.index-jobs-i.is in
     let within = outputs_within (map (λ j. j.now) jobs) l.i job.now at in
-    omega (arith, l.invariant.place, within, c.outputs.ensures.outputs, c.in_ok-look_for_room.ensures.ok)
+    omega (arith, l.invariant.place, within, c.outputs.ensures.outputs, c.in_ok-has_output_room.ensures.ok)
 
 pub slice_bounds-outcome-end : goal.slice_bounds-outcome-end
 slice_bounds-outcome-end c =
@@ -26,7 +26,7 @@ slice_bounds-outcome-end c =
       l.auto.bits,
       within,
       c.outputs.ensures.outputs,
-      c.in_ok-look_for_room.ensures.ok,
+      c.in_ok-has_output_room.ensures.ok,
     )
 
 pub loop-i-preserved : goal.loop-i-preserved
@@ -44,7 +44,7 @@ loop-i-preserved c =
       l.auto.bits,
       within,
       c.outputs.ensures.outputs,
-      c.in_ok-look_for_room.ensures.ok,
+      c.in_ok-has_output_room.ensures.ok,
     ) in
     let size : l.place + n - l.place ≡ n = omega arith in
     let part = c.outcome-outcome.new.bits in

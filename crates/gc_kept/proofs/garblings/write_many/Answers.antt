@@ -11,14 +11,14 @@ put_files-requires-clause-room c =
       c.deref.ensures.value,
       c.in_ok-bodies.ensures.ok,
       joined c.args.version gs,
-    ) c.in_ok-look_for_room.ensures.ok
+    ) c.in_ok-has_files_room.ensures.ok
 
 pub returns-clause-ok : goal.returns-clause-ok
 returns-clause-ok c =
     let gs = map (λ g. g.now) c.args.garblings.now in
     record {
-      from_zero = c.in_ok-look_at_numbers.ensures.ok;
-      digests = c.in_ok-look_at_digests.ensures.ok;
+      from_zero = c.in_ok-have_files.ensures.numbers;
+      digests = c.in_ok-have_files.ensures.digests;
       files = rw (
         c.deref-3.ensures.value,
         c.in_ok-bodies-2.ensures.ok,

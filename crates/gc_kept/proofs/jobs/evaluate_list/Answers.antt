@@ -9,6 +9,6 @@ write_bits-requires c =
       ap length c.in_ok-all.ensures,
       length-all (map (λ j. j.now) c.args.jobs.now) _
           (rw (← c.deref.ensures.value) at c.in_ok-found.ensures),
-      c.in_ok-look_for_room.ensures.ok,
+      c.in_ok-has_output_room.ensures.ok,
       ap length c.deref-2.ensures.value,
     )

@@ -1,11 +1,11 @@
 use Rattle.std.proofs.Common.{◌∙◌, ◌++◌, length, take, refl, ap, arith}
-use Rattle.gc_kept.proofs.PieceLemmas.{put_end, label_file-is}
+use Rattle.gc_kept.proofs.PieceLemmas.{put_rest, label_file-is}
 use Rattle.gc_kept.proofs.label_file.put_file.Goals as goal
 
 pub returns : goal.returns
 returns c =
     let file = c.put_header.new.file in
-    put_end file c.put_labels.new.bytes (omega (
+    put_rest 16 file c.put_labels.new.bytes (omega (
       arith,
       c.put_header.ensures.count,
       c.requires.bytes,

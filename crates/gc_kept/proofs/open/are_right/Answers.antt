@@ -6,10 +6,8 @@ use Rattle.gc_half.specs.Evaluation.{encode}
 use Rattle.gc_audit.proofs.LabelsLemmas.{encoded-more}
 use Rattle.gc_kept.specs.Labels.{AreLabels}
 use Rattle.gc_kept.proofs.OpenLemmas.{labels_spelled, length-are}
+use Rattle.gc_kept.proofs.PieceLemmas.{and_true}
 use Rattle.gc_kept.proofs.open.are_right.Goals as goal
-
-and_true : (a b : Bool) → (a && b) ≡ true → (a ≡ true) × (b ≡ true)
-and_true a b h = grind arith
 
 and_false : (a b : Bool) → a ≡ true → (a && b) ≡ false → b ≡ false
 and_false a b one h = grind arith

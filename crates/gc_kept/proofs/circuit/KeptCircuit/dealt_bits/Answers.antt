@@ -18,12 +18,12 @@ returns-in_err-bits-clause-fault c = λ offset zero_label.
     rw (p.1, p.2) (of_bits c.in_ok-width.width c.in_err-bits.field-0.0 c.in_ok-width.ensures.ok
     c.in_err-bits.ensures.fault)
 
-pub returns-in_err-look_for_room-clause-fault : goal.returns-in_err-look_for_room-clause-fault
-returns-in_err-look_for_room-clause-fault c = λ offset zero_label.
+pub returns-in_err-has_file_room-clause-fault : goal.returns-in_err-has_file_room-clause-fault
+returns-in_err-has_file_room-clause-fault c = λ offset zero_label.
     let a = c.args in
     let bits = c.in_ok-bits.bits.items in
-    let p = err_from_is_err_and c.from_residual-in_err-look_for_room.result
-    c.from_residual-in_err-look_for_room.ensures.1 in
+    let p = err_from_is_err_and c.from_residual-in_err-has_file_room.result
+    c.from_residual-in_err-has_file_room.ensures.1 in
     let index = a.input.index in
     let file = label_file (label_parts_with a.self.now.netlist offset zero_label index bits) in
     let size : 16 + 16 * c.in_ok-width.width ≡ length file =
@@ -32,10 +32,10 @@ returns-in_err-look_for_room-clause-fault c = λ offset zero_label.
       length-dealt a.self.now.netlist offset zero_label index bits,
       c.in_ok-bits.ensures.count,
     ) in
-    rw (p.1, p.2) (of_file bits c.in_err-look_for_room.field-0.0 c.in_ok-bits.ensures.bytes
+    rw (p.1, p.2) (of_file bits c.in_err-has_file_room.field-0.0 c.in_ok-bits.ensures.bytes
     (rw c.in_ok-bits.ensures.count c.in_ok-width.ensures.ok)
-    (lacks_room file _ (length a.buffer.now) c.in_err-look_for_room.field-0.0 size
-    c.in_err-look_for_room.ensures.fault))
+    (lacks_room file _ (length a.buffer.now) c.in_err-has_file_room.field-0.0 size
+    c.in_err-has_file_room.ensures.fault))
 
 pub returns-clause-width : goal.returns-clause-width
 returns-clause-width c = rw c.in_ok-bits.ensures.count c.in_ok-width.ensures.ok

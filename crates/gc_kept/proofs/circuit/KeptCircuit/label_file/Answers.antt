@@ -6,7 +6,7 @@ pub write_file-requires-clause-room : goal.write_file-requires-clause-room
 write_file-requires-clause-room c =
     omega (
       arith,
-      c.in_ok-look_for_room.ensures.ok,
+      c.in_ok-has_file_room.ensures.ok,
       ap length c.deref.ensures.value,
       length-labels c.in-Ok.labels.items c.args.input.bytes.now c.in-Ok.ensures.bytes,
     )

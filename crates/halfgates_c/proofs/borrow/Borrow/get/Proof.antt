@@ -1,13 +1,6 @@
 -- `get` reads the pointer and compares it with null. Where a value lies behind it, the value is
 -- shown for as long as the reference is.
-use Rattle.halfgates_c.proofs.Walk.{◌≡◌, ℕ, List, [], ◌∷◌, refl, sym, ap, ◌∙◌, lit<, Val, vptr, a_type}
-use Rattle.halfgates_c.proofs.Walk.{inst_fn, fact, fact_i, emp, RattleType, Ptr, block_ptr, null_ptr}
-use Rattle.halfgates_c.proofs.Walk.{param, param_laws, layout, layouts, tables, ‵, raw, ◌⊛◌, at_ret, ◌$◌}
-use Rattle.halfgates_c.proofs.Walk.{◌∵◌, !, qed, by, move, keep, drop, split, join, fsplit, fjoin, feq_i}
-use Rattle.halfgates_c.proofs.Walk.{use0, use1, rewrite, nothing, stop, fld, lit, of_opd, bin, no_more}
-use Rattle.halfgates_c.proofs.Walk.{and_then, first, blocks, branches, exec, returns, enter, alloc_all}
-use Rattle.halfgates_c.proofs.Walk.{pass_all, free_all, look_at, get, sets, sets_last, env, agg, sub}
-use Rattle.halfgates_c.proofs.Walk.{whole, yes, ftrue, Fml}
+use Rattle.halfgates_c.proofs.Walk.{◌≡◌, ℕ, List, [], ◌∷◌, refl, sym, ap, ◌∙◌, lit<, Val, vptr, a_type, inst_fn, fact, fact_i, emp, RattleType, Ptr, block_ptr, null_ptr, param, param_laws, layout, layouts, tables, ‵, raw, ◌⊛◌, at_ret, ◌$◌, ◌∵◌, !, qed, by, move, keep, drop, split, join, fsplit, fjoin, feq_i, use0, use1, rewrite, nothing, stop, fld, lit, of_opd, bin, no_more, and_then, first, blocks, branches, exec, returns, enter, alloc_all, pass_all, free_all, look_at, get, sets, sets_last, env, agg, sub, whole, yes, ftrue, Fml}
 use mir.Syntax.{Body, seq, assign, place, rv_opd, copy, aggregate, int, w8, named}
 use mir.Val.{vcons, vnil}
 use base.Fml.{Lft, fsep, flft, fhide}

@@ -1,9 +1,5 @@
 -- `null` makes the struct. Nothing lies behind null.
-use Rattle.halfgates_c.proofs.Walk.{◌≡◌, [], ◌∷◌, refl, lit<, a_type, inst_fn, fact, fact_i, emp, alive}
-use Rattle.halfgates_c.proofs.Walk.{RattleType, null_ptr, param, layouts, tables, ‵, raw, ◌⊛◌, ◌$◌, ◌∵◌}
-use Rattle.halfgates_c.proofs.Walk.{ !, qed, by, move, keep, split, fjoin, use0, nothing, lit}
-use Rattle.halfgates_c.proofs.Walk.{no_more, and_then, returns, enter, alloc_all, pass_all, free_all}
-use Rattle.halfgates_c.proofs.Walk.{look_at, sets, agg, ftrue}
+use Rattle.halfgates_c.proofs.Walk.{◌≡◌, [], ◌∷◌, refl, lit<, a_type, inst_fn, fact, fact_i, emp, alive, RattleType, null_ptr, param, layouts, tables, ‵, raw, ◌⊛◌, ◌$◌, ◌∵◌, !, qed, by, move, keep, split, fjoin, use0, nothing, lit, no_more, and_then, returns, enter, alloc_all, pass_all, free_all, look_at, sets, agg, ftrue}
 use denote.Triple.Walked.{Stays, walk_of}
 use Rattle.std.proofs.raw_atomic.Walks.{proved, leaves}
 use Rattle.halfgates_c.specs.contracts.borrow.Borrow as borrow_type

@@ -1,13 +1,5 @@
 -- `into_box` gives the pointer and the allocator to `Box::from_raw`.
-use Rattle.halfgates_c.proofs.Walk.{◌≡◌, List, [], ◌∷◌, refl, sym, ap, subst, id⊢, Fml, ftrue, a_type}
-use Rattle.halfgates_c.proofs.Walk.{dcons, dnil, Val, vptr, inst_fn, fact, fact_i, no, RattleType}
-use Rattle.halfgates_c.proofs.Walk.{block_ptr, param, layout, bounded, param_laws, tables, ‵, raw}
-use Rattle.halfgates_c.proofs.Walk.{◌⊛◌, some, later, at_ret, ◌$◌, !, move, keep, drop, split, split3}
-use Rattle.halfgates_c.proofs.Walk.{join, fjoin, pick, use1, await, rewrite, feq_i, heard, only, stop}
-use Rattle.halfgates_c.proofs.Walk.{fld, of_opd, no_more, and_then, first, blocks, exec, returns}
-use Rattle.halfgates_c.proofs.Walk.{alloc_all, pass_all, free_all, look_at, get, get_in, sets}
-use Rattle.halfgates_c.proofs.Walk.{lands_last, env, sub, whole, enter_at, takes, alive, Walk, met_by}
-use Rattle.halfgates_c.proofs.Walk.{ends}
+use Rattle.halfgates_c.proofs.Walk.{◌≡◌, List, [], ◌∷◌, refl, sym, ap, subst, id⊢, Fml, ftrue, a_type, dcons, dnil, Val, vptr, inst_fn, fact, fact_i, no, RattleType, block_ptr, param, layout, bounded, param_laws, tables, ‵, raw, ◌⊛◌, some, later, at_ret, ◌$◌, !, move, keep, drop, split, split3, join, fjoin, pick, use1, await, rewrite, feq_i, heard, only, stop, fld, of_opd, no_more, and_then, first, blocks, exec, returns, alloc_all, pass_all, free_all, look_at, get, get_in, sets, lands_last, env, sub, whole, enter_at, takes, alive, Walk, met_by, ends}
 use contract.BorrowLft.{◌⊑◌}
 use denote.Triple.Clauses.{Lasts, lasts}
 use denote.Triple.Spec.{triple_of}

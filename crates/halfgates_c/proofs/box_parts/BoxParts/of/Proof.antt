@@ -1,12 +1,5 @@
 -- `of` takes the pointer and the allocator out of the box, and moves them over.
-use Rattle.halfgates_c.proofs.Walk.{◌≡◌, [], ◌∷◌, refl, ap, id⊢, Fml, ftrue, a_type, dcons, dnil, Val}
-use Rattle.halfgates_c.proofs.Walk.{vptr, inst_fn, fact, fact_i, no, RattleType, Ptr, block_ptr}
-use Rattle.halfgates_c.proofs.Walk.{param, bounded, param_laws, ‵, raw, ◌⊛◌, some, later, ◌$◌, ! }
-use Rattle.halfgates_c.proofs.Walk.{move, keep, drop, split, split3, join, fjoin, pick, use1, await}
-use Rattle.halfgates_c.proofs.Walk.{rewrite, heard, only, nothing, stop, fld, of_opd, no_more}
-use Rattle.halfgates_c.proofs.Walk.{and_then, returns, alloc_all, pass_all, free_all, look_at, get}
-use Rattle.halfgates_c.proofs.Walk.{get_in, sets, lands_as, agg, sub, whole, enter_at, takes, alive}
-use Rattle.halfgates_c.proofs.Walk.{met_by, ends}
+use Rattle.halfgates_c.proofs.Walk.{◌≡◌, [], ◌∷◌, refl, ap, id⊢, Fml, ftrue, a_type, dcons, dnil, Val, vptr, inst_fn, fact, fact_i, no, RattleType, Ptr, block_ptr, param, bounded, param_laws, ‵, raw, ◌⊛◌, some, later, ◌$◌, !, move, keep, drop, split, split3, join, fjoin, pick, use1, await, rewrite, heard, only, nothing, stop, fld, of_opd, no_more, and_then, returns, alloc_all, pass_all, free_all, look_at, get, get_in, sets, lands_as, agg, sub, whole, enter_at, takes, alive, met_by, ends}
 use base.Fml.{fsep}
 use denote.Builtin.{RawPtr}
 use denote.Struct.Tuple.{Tuple}

@@ -1,12 +1,6 @@
 -- `into_parts` compares the pointer with null. Where a box lies behind it, it casts the pointer and moves the
 -- allocator over.
-use Rattle.halfgates_c.proofs.Walk.{[], ◌∷◌, refl, ap, ◌∙◌, lit<, Val, vptr, fact_i}
-use Rattle.halfgates_c.proofs.Walk.{yes, RattleType, Ptr, block_ptr, null_ptr, ptr_val, layout}
-use Rattle.halfgates_c.proofs.Walk.{tables, ‵, ◌$◌, !, keep, drop, use0, use1, at_ret, stop}
-use Rattle.halfgates_c.proofs.Walk.{fld, lit, of_opd, bin, no_more, and_then, first, branches, exec}
-use Rattle.halfgates_c.proofs.Walk.{returns, alloc_all, pass_all, free_all, look_at, get, get_in}
-use Rattle.halfgates_c.proofs.Walk.{sets, sets_last, env, agg, sub, whole, enter_at, Walk, met_by}
-use Rattle.halfgates_c.proofs.Walk.{ends}
+use Rattle.halfgates_c.proofs.Walk.{[], ◌∷◌, refl, ap, ◌∙◌, lit<, Val, vptr, fact_i, yes, RattleType, Ptr, block_ptr, null_ptr, ptr_val, layout, tables, ‵, ◌$◌, !, keep, drop, use0, use1, at_ret, stop, fld, lit, of_opd, bin, no_more, and_then, first, branches, exec, returns, alloc_all, pass_all, free_all, look_at, get, get_in, sets, sets_last, env, agg, sub, whole, enter_at, Walk, met_by, ends}
 use mathlib.Core.Bool.{true}
 use mir.Val.{vnull, vcons, vnil}
 use types.Match.{live}
@@ -18,8 +12,7 @@ use Rattle.halfgates_c.specs.contracts.box_parts.BoxParts as parts_type
 use Rattle.gc_kept.specs.contracts.held.Held as held_type
 use Rattle.halfgates_c.specs.contracts.slot.Slot as slot_type
 use Rattle.halfgates_c.proofs.Pair.{Good, and_in, pair, pair_fits, pair_out, pair_in}
-use Rattle.halfgates_c.proofs.BoxSteps.{None, Some, ghosts, box_behind, Heap, heap_laws, box_at}
-use Rattle.halfgates_c.proofs.BoxSteps.{null_or_box}
+use Rattle.halfgates_c.proofs.BoxSteps.{None, Some, ghosts, box_behind, Heap, heap_laws, box_at, null_or_box}
 use Rattle.halfgates_c.specs.contracts.slot.Slot.into_parts.{clauses}
 use Rattle.halfgates_c.specs.contracts.slot.Slot.into_parts.Key.{name as #self}
 use Rattle.halfgates_c.proofs.slot.Slot.into_parts.Statement.{statement}

@@ -1,8 +1,5 @@
 -- `null` makes the struct of null and the allocator. Nothing lies behind null.
-use Rattle.halfgates_c.proofs.Walk.{[], ◌∷◌, refl, Val, fact_i, yes, null_ptr, RattleType, dnil}
-use Rattle.halfgates_c.proofs.Walk.{◌$◌, !, keep, alloc_all, pass_all, free_all, nothing, lit}
-use Rattle.halfgates_c.proofs.Walk.{no_more, and_then, returns, look_at, get, sets, agg}
-use Rattle.halfgates_c.proofs.Walk.{enter_at, met_by, ends}
+use Rattle.halfgates_c.proofs.Walk.{[], ◌∷◌, refl, Val, fact_i, yes, null_ptr, RattleType, dnil, ◌$◌, !, keep, alloc_all, pass_all, free_all, nothing, lit, no_more, and_then, returns, look_at, get, sets, agg, enter_at, met_by, ends}
 use mir.Syntax.{impl, tnil}
 use mir.Val.{vnull}
 use Rattle.core.proofs.alloc.Calls.{Al, handle_tells}

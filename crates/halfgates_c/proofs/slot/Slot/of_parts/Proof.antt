@@ -1,8 +1,5 @@
 -- `of_parts` casts the pointer and moves the allocator over. The box that the parts own is now behind the pointer.
-use Rattle.halfgates_c.proofs.Walk.{[], ◌∷◌, refl, Val, vptr, fact_i, yes, block_ptr, RattleType}
-use Rattle.halfgates_c.proofs.Walk.{◌$◌, !, keep, alloc_all, pass_all, free_all, stop, fld, of_opd}
-use Rattle.halfgates_c.proofs.Walk.{no_more, and_then, returns, look_at, get, get_in, sets, agg}
-use Rattle.halfgates_c.proofs.Walk.{sub, whole, enter_at, met_by, ends}
+use Rattle.halfgates_c.proofs.Walk.{[], ◌∷◌, refl, Val, vptr, fact_i, yes, block_ptr, RattleType, ◌$◌, !, keep, alloc_all, pass_all, free_all, stop, fld, of_opd, no_more, and_then, returns, look_at, get, get_in, sets, agg, sub, whole, enter_at, met_by, ends}
 use Rattle.gc_kept.specs.contracts.held.Held as held_type
 use Rattle.halfgates_c.specs.contracts.box_parts.BoxParts as parts_type
 use Rattle.halfgates_c.specs.contracts.slot.Slot as slot_type

@@ -1,7 +1,7 @@
 use Rattle.std.proofs.Common.{refl, arith}
 use Rattle.gc_kept.specs.Files.{file_of}
 use Rattle.gc_kept.proofs.GarblingsLemmas.{count_more, count_within}
-use Rattle.gc_kept.proofs.garblings.look_for_room.Goals as goal
+use Rattle.gc_kept.proofs.garblings.has_files_room.Goals as goal
 
 pub returns-then-room-size-clause-fault : goal.returns-then-room-size-clause-fault
 returns-then-room-size-clause-fault c =

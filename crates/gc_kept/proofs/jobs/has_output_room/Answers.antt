@@ -1,6 +1,6 @@
 use Rattle.std.proofs.Common.{map, refl, arith}
 use Rattle.gc_kept.proofs.JobsLemmas.{job_at, outputs_next, outputs_within}
-use Rattle.gc_kept.proofs.jobs.look_for_room.Goals as goal
+use Rattle.gc_kept.proofs.jobs.has_output_room.Goals as goal
 
 pub returns-then-room-outputs-clause-fault : goal.returns-then-room-outputs-clause-fault
 returns-then-room-outputs-clause-fault c =

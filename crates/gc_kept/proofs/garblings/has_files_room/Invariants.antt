@@ -1,6 +1,6 @@
 use Rattle.std.proofs.Common.{◌≡◌, ◌+◌, length, map, take}
 use Rattle.gc_kept.specs.Garblings.{files_of}
-use Rattle.gc_kept.proofs.garblings.look_for_room.Given as goal
+use Rattle.gc_kept.proofs.garblings.has_files_room.Given as goal
 
 abbrev pub invariant-loop-garbling : goal.invariant-loop-garbling
 invariant-loop-garbling l =
