@@ -1,7 +1,7 @@
 -- The lines of an order.
 use Rattle.std.specs.Prelude.{ℕ, List}
-use Rattle.gc_cli.specs.declared.answer.Left.{Left}
-use Rattle.gc_cli.specs.declared.answer.Left.TheVariants.{Made, Labels}
+use Rattle.gc_cli.specs.declared.order_result.Left.{Left}
+use Rattle.gc_cli.specs.declared.order_result.Left.TheVariants.{Made, Labels}
 
 -- their bytes
 abbrev pub left_bytes : {A : Type 0} → Left A → List ℕ

@@ -1,5 +1,5 @@
 -- The outcome of a whole run, by the arguments that the words of its command line stand for.
-use Rattle.std.specs.Prelude.{◌≡◌, ℕ, List, ◌∷◌, [], ◌++◌, codes}
+use Rattle.std.specs.Prelude.{◌≡◌, ℕ, List}
 use Rattle.gc_disk.specs.Files.{FileBytes}
 use Rattle.gc_command.specs.declared.fault.Fault.{Fault}
 use Rattle.gc_command.specs.declared.fault.Fault.TheVariants as fault
@@ -8,7 +8,7 @@ use Rattle.gc_cli.specs.declared.arguments.Refusal.{Refusal}
 use Rattle.gc_cli.specs.declared.arguments.Refusal.TheVariants.{NoFile, CannotRead, Memory}
 use Rattle.gc_cli.specs.Arguments.{IsRefusedLine, LineStandsFor}
 use Rattle.gc_cli.specs.Output.{Printed}
-use Rattle.gc_cli.specs.Serve.{PrintsFault, PrintsLine}
+use Rattle.gc_cli.specs.Serve.{PrintsFault}
 
 -- The words stand for arguments of which this is true.
 abbrev pub IsOf : FileBytes → List (List ℕ) → (List (List ℕ) → Type 0) → Type 0
@@ -33,13 +33,3 @@ EndsByRefusal old new Failed words out out_after err err_after =
     (refusal : Refusal) × (IsRefusedLine old Failed words refusal
     × ((fault : Fault) × (IsFaultOf refusal fault
     × (PrintsFault err err_after fault × ((out_after ≡ out) × KeepsFiles old new)))))
-
--- what standard error says where the option has no file
-abbrev pub no_file_text : List ℕ
-no_file_text =
-    codes "error: a value is required for '--args-from <FILE>' but none was supplied" ++ 10 ∷ 10
-    ∷ codes "For more information, try '--help'." ++ 10 ∷ []
-
--- It says so, unless a call to print it failed.
-abbrev pub PrintsNoFile : Printed → Printed → Type 0
-PrintsNoFile before after = PrintsLine before after no_file_text

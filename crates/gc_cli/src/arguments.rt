@@ -1,9 +1,8 @@
 //! Expands a command line: `--args-from FILE` stands for the lines of FILE.
 
 ghost use Rattle.std.specs.Prelude.{◌≡◌, ◌++◌, ◌≢◌, ◌∷◌, ℕ, List, map, string_bytes, IfErr, IfOk, IfNone, IfSome, OnOk, true, false, codes, length, ◌<◌, []};
-ghost use Rattle.gc_disk.specs.Files.{GivesFile, HasFailed};
-ghost use Rattle.gc_cli.specs.Arguments.{AreLines, ArePlain, AreRefused, AskForHelp, FirstStandsFor, HasLines, IsEnd, IsRefusedFile, IsRefusedLine};
-ghost use Rattle.gc_cli.specs.Arguments.{IsOption, IsRefusedNext, LineStandsFor, StandForThemselves, WordsStandFor, help_last};
+ghost use Rattle.gc_disk.specs.Files.{HasFailed};
+ghost use Rattle.gc_cli.specs.Arguments.{AreLines, ArePlain, AreRefused, AskForHelp, FirstStandsFor, HasLines, IsEnd, IsOption, IsRefusedFile, IsRefusedLine, IsRefusedNext, LineStandsFor, StandForThemselves, WordsStandFor, help_last};
 
 use gc_disk::{FileError, Files};
 use std::alloc::{AllocError, Allocator};
@@ -224,33 +223,16 @@ fn push_file<A: Allocator + Copy, F: Files>(
     ensures unfailed { OnOk result (F.failures files.new ≡ F.failures files.old) }
     ensures same { (n : List ℕ) → F.bytes files.new n ≡ F.bytes files.old n }
 {
-    let text = read_text(alloc, name, files)?;
-    push_lines(alloc, text.as_str(), arguments)?;
-    Ok(())
-}
-
-/// The text of the file of this name.
-fn read_text<A: Allocator + Copy, F: Files>(
-    alloc: A,
-    name: &str,
-    files: &mut F,
-) -> Result<String<A>, Refusal>
-    ensures text { IfOk result
-        (λ text. GivesFile (F.bytes files.old name.now) (string_bytes text)) }
-    ensures refusal { IfErr result (IsRefusedFile (F.bytes files.old)
-        (HasFailed (F.failures files.old) (F.failures files.new)) name.now) }
-    ensures unfailed { OnOk result (F.failures files.new ≡ F.failures files.old) }
-    ensures same { (n : List ℕ) → F.bytes files.new n ≡ F.bytes files.old n }
-{
     let bytes = match files.read(alloc, name) {
         Ok(bytes) => bytes,
         Err(FileError::Memory) => return Err(Refusal::Memory),
         Err(_) => return Err(Refusal::CannotRead),
     };
-    match String::from_utf8(bytes) {
-        Ok(text) => Ok(text),
-        Err(_) => Err(Refusal::CannotRead),
-    }
+    let Ok(text) = String::from_utf8(bytes) else {
+        return Err(Refusal::CannotRead);
+    };
+    push_lines(alloc, text.as_str(), arguments)?;
+    Ok(())
 }
 
 /// Adds each line of a text. A line ends with a line feed, or with the text.

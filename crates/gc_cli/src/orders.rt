@@ -6,7 +6,7 @@ ghost use Rattle.gc_disk.specs.Files.{HasFailed};
 ghost use Rattle.gc_command.specs.Wrote.{KeepsFiles};
 ghost use Rattle.gc_cli.specs.CarryOut.{AnswersCommand, HasFault, Writes};
 
-use crate::answer::OrderResult;
+use crate::order_result::OrderResult;
 use gc_command::audit::audit;
 use gc_command::check::check;
 use gc_command::deal::deal;

@@ -1,19 +1,14 @@
 //! A run of the program, from its arguments to its status.
 
-ghost use Rattle.std.specs.Prelude.{◌≡◌, ◌+◌, ◌<◌, ◌≤◌, ◌⊎◌, ◌||◌, ℕ, List, IfErr, IfOk, OnOk};
-ghost use Rattle.std.specs.Io.KnownBytes.{Appends};
+ghost use Rattle.std.specs.Prelude.{◌≡◌, ◌<◌, ◌≤◌, ◌⊎◌, ◌||◌, ℕ, List, IfErr, IfOk};
 ghost use Rattle.std.specs.IoError.{error_kind};
-ghost use Rattle.gc_file.specs.Counted.{CountsFailure};
-ghost use Rattle.gc_order.specs.Order.{explains_in, order_text};
+ghost use Rattle.gc_order.specs.Order.{order_text};
 ghost use Rattle.gc_disk.specs.Files.{HasFailed};
 ghost use Rattle.gc_cli.specs.CarryOut.{Writes};
 ghost use Rattle.gc_cli.specs.CommandLine.{IsAsked, IsMistaken};
-ghost use Rattle.gc_cli.specs.Output.{Printed};
-ghost use Rattle.gc_cli.specs.Serve.{AskToWrite, EndsByFault, FailsToAnswer, FindsDishonest, IsSuccessful};
-ghost use Rattle.gc_cli.specs.Serve.{AddsExplanation, PrintsAnswer, PrintsFault, PrintsLine};
-ghost use Rattle.gc_cli.specs.Serve.{PrintsRefusal, error_line, reason_of, refusal_line};
+ghost use Rattle.gc_cli.specs.Serve.{AddsExplanation, AskToWrite, EndsByFault, FailsToAnswer, FindsDishonest, IsSuccessful, PrintsAnswer, PrintsFault, PrintsRefusal, reason_of};
 
-use crate::answer::OrderResult;
+use crate::order_result::OrderResult;
 use crate::orders::carry_out;
 use crate::output::{Console, Output};
 use clap::Error;
@@ -78,7 +73,7 @@ pub(crate) fn serve_asked<R: Threads + Wait + Sync, F: Reread, O: Write, E: Writ
 {
     let before = files.log().opened();
     match asked {
-        Ok(asked) => match print_answer(context, &asked.order, files, &mut console.out) {
+        Ok(asked) => match print_result(context, &asked.order, files, &mut console.out) {
             Ok(true) => DONE,
             Ok(false) => DISHONEST,
             Err(fault) => {
@@ -89,7 +84,9 @@ pub(crate) fn serve_asked<R: Threads + Wait + Sync, F: Reread, O: Write, E: Writ
                     opened: files.log().opened().saturating_sub(before),
                     printing: console.out.cause(),
                 };
-                report_order(fault, &ended, asked.explains, console)
+                let status = report(fault, &mut console.err);
+                tell(fault, &ended, asked.explains, console);
+                status
             }
         },
         Err(help) if !help.use_stderr() => match write!(console.out, "{help}") {
@@ -105,7 +102,7 @@ pub(crate) fn serve_asked<R: Threads + Wait + Sync, F: Reread, O: Write, E: Writ
 
 /// Carries out an order, and prints its result. It returns whether an audit finds its files honest, and `true` of any
 /// other order. Each fault but that of `out` comes before anything is printed.
-fn print_answer<R: Threads + Wait + Sync, F: Files, O: Write, P: Progress>(
+fn print_result<R: Threads + Wait + Sync, F: Files, O: Write, P: Progress>(
     context: &Context<'_, R, Global, P>,
     order: &Order,
     files: &mut F,
@@ -119,9 +116,9 @@ fn print_answer<R: Threads + Wait + Sync, F: Files, O: Write, P: Progress>(
     ensures others { (name : List ℕ) → ¬ Writes (order_text order.now) name
         → F.bytes files.new name ≡ F.bytes files.old name }
 {
-    let answer = carry_out(context, order, files);
+    let result = carry_out(context, order, files);
     context.progress.end();
-    let OrderResult { lines, is_honest } = answer?;
+    let OrderResult { lines, is_honest } = result?;
     lines.print(out)?;
     Ok(is_honest)
 }
@@ -132,20 +129,9 @@ pub fn refuse_line<E: Write>(error: &io::Error, err: &mut Output<E>) -> u8
     ensures status { result ≡ USAGE }
     ensures printed { PrintsRefusal err.old err.new (error_kind error.now) }
 {
-    let _ = write_refusal(error.kind(), err);
+    let reason = reason_of(error.kind());
+    let _ = writeln!(err, "error: the command line can't be read: {reason}");
     USAGE
-}
-
-/// Writes the line that says why the arguments can't be read.
-fn write_refusal<E: Write>(kind: ErrorKind, err: &mut Output<E>) -> io::Result<()>
-    ensures printed { OnOk result (Appends err.old.contents err.new.contents (refusal_line kind)) }
-    ensures counted { CountsFailure result err.old.failures err.new.failures }
-{
-    writeln!(
-        err,
-        "error: the command line can't be read: {}",
-        reason_of(kind)
-    )
 }
 
 /// Why the arguments can't be read.
@@ -157,25 +143,6 @@ fn reason_of(kind: ErrorKind) -> &'static str
         ErrorKind::OutOfMemory => "out of memory",
         _ => "its words can't be read",
     }
-}
-
-/// Says on standard error which fault ended an order and, where the arguments or the console ask for it, what explains
-/// it.
-fn report_order<F: Reread, O: Write, E: Write>(
-    fault: Fault,
-    ended: &Ended<'_, Global, F>,
-    explains: bool,
-    console: &mut Console<O, E>,
-) -> u8
-    ensures status { result ≡ FAULT }
-    ensures printed { (reported : Printed) × PrintsFault console.old.err reported fault
-        × AddsExplanation (F.bytes ended.now.files.now) (order_text ended.now.order.now)
-        (console.old.explains || explains) fault reported console.new.err }
-    ensures same { console.new.out ≡ console.old.out }
-{
-    let status = report(fault, &mut console.err);
-    tell(fault, ended, explains, console);
-    status
 }
 
 /// Says on standard error what explains the fault of an order, where the arguments or the console ask for it. Where
@@ -195,15 +162,8 @@ fn tell<F: Reread, O: Write, E: Write>(
         return;
     }
     if let Some(line) = ended.explain(fault) {
-        write_explanation(&line, &mut console.err);
+        let _ = console.err.write_all(&line);
     }
-}
-
-/// Writes the line that explains a fault. Where that fails, nothing can be said.
-fn write_explanation<E: Write>(line: &[u8], err: &mut Output<E>)
-    ensures { PrintsLine err.old err.new line.now }
-{
-    let _ = err.write_all(line);
 }
 
 /// Says on standard error which fault ended the run. Where that fails, nothing can be said.
@@ -211,14 +171,6 @@ pub(crate) fn report<E: Write>(fault: Fault, err: &mut Output<E>) -> u8
     ensures status { result ≡ FAULT }
     ensures printed { PrintsFault err.old err.new fault }
 {
-    let _ = write_fault(fault, err);
+    let _ = writeln!(err, "halfgates: {fault}");
     FAULT
-}
-
-/// Writes the line of a fault.
-fn write_fault<E: Write>(fault: Fault, err: &mut Output<E>) -> io::Result<()>
-    ensures printed { OnOk result (Appends err.old.contents err.new.contents (error_line fault)) }
-    ensures counted { CountsFailure result err.old.failures err.new.failures }
-{
-    writeln!(err, "halfgates: {fault}")
 }

@@ -1,13 +1,11 @@
 //! A whole run of the program, from the words of its command line to its status.
 
 ghost use Rattle.std.specs.Prelude.{◌≡◌, ◌<◌, ◌≤◌, ◌⊎◌, ℕ, List, map, string_bytes, IfErr, IfOk, MatchResult, OnOk};
-ghost use Rattle.std.specs.Io.KnownBytes.{Appends};
-ghost use Rattle.gc_file.specs.Counted.{CountsFailure};
 ghost use Rattle.gc_disk.specs.Files.{HasFailed};
 ghost use Rattle.gc_cli.specs.Arguments.{IsRefusedLine, StandForThemselves};
 ghost use Rattle.gc_cli.specs.CommandLine.{IsAsked, IsMistaken};
 ghost use Rattle.gc_cli.specs.Serve.{AskToWrite, EndsByFault, FindsDishonest, IsSuccessful};
-ghost use Rattle.gc_cli.specs.WholeRun.{EndsByRefusal, IsOf, LackFile, PrintsNoFile, no_file_text};
+ghost use Rattle.gc_cli.specs.WholeRun.{EndsByRefusal, IsOf, LackFile};
 
 use crate::arguments::{Refusal, arguments_of, stand_for_themselves};
 use crate::command_line::Heap;
@@ -17,7 +15,7 @@ use clap::Error;
 use gc_command::{Context, Fault, Progress};
 use gc_disk::{Files, Reread};
 use gc_order::Asked;
-use std::io::{self, Write};
+use std::io::Write;
 use std::sync::Wait;
 use std::thread::Threads;
 
@@ -111,7 +109,7 @@ pub fn serve<R: Threads + Wait + Sync, F: Reread, O: Write, E: Write, P: Progres
     }
 }
 
-/// What the arguments ask for that the words of a command line stand for.
+/// What a command line asks for, with the arguments from files.
 fn asked_in<F: Files>(
     heap: &mut Heap,
     words: &[String],
@@ -133,22 +131,13 @@ fn asked_in<F: Files>(
     Ok(heap.order(&arguments))
 }
 
-/// Says on standard error that the option lacks its file. Where that fails, nothing can be said.
+/// Says on standard error, as clap does, that the option lacks its file. Where that fails, nothing can be said.
 fn lack_file<E: Write>(err: &mut Output<E>) -> u8
-    ensures status { result ≡ USAGE }
-    ensures printed { PrintsNoFile err.old err.new }
+    ensures { result ≡ USAGE }
 {
-    let _ = write_no_file(err);
-    USAGE
-}
-
-/// Writes that the option lacks its file, as clap writes it of other options.
-fn write_no_file<E: Write>(err: &mut Output<E>) -> io::Result<()>
-    ensures printed { OnOk result (Appends err.old.contents err.new.contents no_file_text) }
-    ensures counted { CountsFailure result err.old.failures err.new.failures }
-{
-    err.write_all(
+    let _ = err.write_all(
         b"error: a value is required for '--args-from <FILE>' but none was supplied\n\n\
 For more information, try '--help'.\n",
-    )
+    );
+    USAGE
 }

@@ -36,9 +36,3 @@ pub record HasReadingFault (bytes : Option (List ℕ)) (Failed : Type 0) (fault 
   pub kind : IsCircuitFault fault
   pub first : IfSome bytes (λ held. HasCircuitFault held fault)
   pub cause : HasCause fault Failed ⊥
-
--- Reading a circuit's text has this fault.
-pub record IsTextFault (text : List ℕ) (fault : Fault) : Type 0 where
-  pub kind : IsCircuitFault fault
-  pub first : HasCircuitFault text fault
-  pub cause : HasCause fault ⊥ ⊥

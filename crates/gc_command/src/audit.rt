@@ -28,7 +28,6 @@ use gc_label::Seed;
 use gc_order::AuditOrder;
 use gc_work::WorkFault;
 use std::alloc::Allocator;
-use std::sync::Wait;
 use std::thread::Threads;
 
 /// What an audit finds.
@@ -44,7 +43,7 @@ pub struct Audited<A: Allocator> {
 /// gives, and returns what it finds. The files are not trusted. One thread garbles and compares; another may
 /// hash meanwhile.
 #[inline(never)]
-pub fn audit<R: Threads + Wait + Sync, A: Allocator + Copy + Send + Sync, F: Files, P: Progress>(
+pub fn audit<R: Threads + Sync, A: Allocator + Copy + Send + Sync, F: Files, P: Progress>(
     context: &Context<'_, R, A, P>,
     order: &AuditOrder,
     files: &mut F,

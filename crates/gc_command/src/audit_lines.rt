@@ -6,8 +6,7 @@ ghost use Rattle.gc_half.specs.Comparing.{HasLabels};
 ghost use Rattle.gc_file.specs.GarbledFile.{GarbledParts};
 ghost use Rattle.gc_file.specs.declared.parts.Version.TheVariants.{Two};
 ghost use Rattle.gc_audit.specs.Garbled.{IsGarbledAudit};
-ghost use Rattle.gc_command.specs.Audit.{AreAuditLines, AreLabelsFound, bits_line, digest_line, end_line, entries_line, garbled_lines};
-ghost use Rattle.gc_command.specs.Audit.{is_dealt, parts_lines, rows_line, rows_name, value_word, verdict_line};
+ghost use Rattle.gc_command.specs.Audit.{AreAuditLines, AreLabelsFound, bits_line, digest_line, end_line, entries_line, garbled_lines, is_dealt, parts_lines, rows_line, rows_name, value_word, verdict_line};
 
 use crate::audit::{Audited, Compared};
 use crate::lines::{push_field, push_number, push_word};

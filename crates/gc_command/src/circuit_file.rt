@@ -1,11 +1,11 @@
 //! The circuit of a file, and its digest.
 
-ghost use Rattle.std.specs.Prelude.{◌≡◌, ◌≢◌, ℕ, List, Err, IfOk, IfErr, IfSome, OnOk};
+ghost use Rattle.std.specs.Prelude.{◌≡◌, ℕ, List, IfOk, IfErr, IfSome, OnOk};
 ghost use Rattle.sha2.specs.Sha256.{sha256};
 ghost use Rattle.gc_netlist.specs.Canon.{canonical_text};
 ghost use Rattle.gc_netlist.specs.Circuit.{IsLawful};
 ghost use Rattle.gc_disk.specs.Files.{HasFailed};
-ghost use Rattle.gc_command.specs.CircuitFile.{IsCircuit, IsTextFault, HasReadingFault};
+ghost use Rattle.gc_command.specs.CircuitFile.{IsCircuit, HasReadingFault};
 
 use crate::digest::with_digest;
 use crate::fault::Fault;

@@ -9,7 +9,7 @@ ghost use Rattle.gc_command.specs.Fault.{HasCause, HasWriteCause};
 
 use crate::circuit_file::read_circuit;
 use crate::fault::Fault;
-use crate::garbler::Garbler;
+use crate::seeded_circuit::SeededCircuit;
 use crate::values::read_input_value;
 use crate::wrote::{ROOM, keep_written, wrote_line};
 use gc_disk::Files;
@@ -51,15 +51,15 @@ pub fn deal<A: Allocator + Copy, F: Files>(
     let circuit = read_circuit(alloc, name, files)?;
     let seed = Seed::from_hex(seed)?;
     let bits = read_input_value(alloc, circuit.input_widths(), order.index, value)?;
-    let garbler = Garbler {
+    let seeded = SeededCircuit {
         alloc,
         circuit: &circuit,
         seed: &seed,
     };
-    garbler.write_value(order, &bits, files)
+    seeded.write_value(order, &bits, files)
 }
 
-impl<A: Allocator + Copy> Garbler<'_, A> {
+impl<A: Allocator + Copy> SeededCircuit<'_, A> {
     /// Writes the label file of the input value, which has these bits and is not the circuit's file. The caller ensures
     /// that there is such a value, and that the bits have its width.
     fn write_value<F: Files>(

@@ -1,12 +1,11 @@
 //! The command `eval`: evaluating a circuit from a garbled file and label files.
 
-ghost use Rattle.std.specs.Prelude.{◌≡◌, ◌≢◌, ℕ, List, Err, map, IfOk, IfErr, IfSome, MatchResult, string_bytes};
+ghost use Rattle.std.specs.Prelude.{◌≡◌, ◌≢◌, ℕ, List, Err, map, IfOk, IfErr, MatchResult, string_bytes};
 ghost use Rattle.sha2.specs.Sha256.{sha256};
 ghost use Rattle.gc_netlist.specs.Canon.{canonical_text};
 ghost use Rattle.gc_netlist.specs.Circuit.{IsLawful};
 ghost use Rattle.gc_netlist.specs.Reading.{circuit_of};
 ghost use Rattle.gc_netlist.specs.Text.{tokens};
-ghost use Rattle.gc_file.specs.GarbledFile.{IsGarbledFile};
 ghost use Rattle.gc_workers.specs.Workers.{AreFew};
 ghost use Rattle.gc_disk.specs.Files.{GivesFile, HasFailed};
 ghost use Rattle.gc_command.specs.CircuitFile.{IsCircuit};

@@ -3,12 +3,11 @@
 ghost use Rattle.std.specs.Prelude.{◌≡◌, ◌<◌, ◌++◌, ◌∷◌, ℕ, List, [], length, map, IfOk, IfErr, IfSome, MatchOption, string_bytes};
 ghost use Rattle.gc_circuit.specs.Meaning.{Fits};
 ghost use Rattle.gc_command.specs.Fault.{HasReadCause};
-ghost use Rattle.gc_command.specs.Labels.{AnswersLabels, AreLabelLines, HasLabelsFault, IsLinesMemoryFault};
-ghost use Rattle.gc_command.specs.Labels.{label_digits, wire_line};
+ghost use Rattle.gc_command.specs.Labels.{AnswersLabels, AreLabelLines, HasLabelsFault, IsLinesMemoryFault, label_digits, wire_line};
 
 use crate::circuit_file::read_circuit;
 use crate::fault::Fault;
-use crate::garbler::Garbler;
+use crate::seeded_circuit::SeededCircuit;
 use crate::set_wires::SetWires;
 use crate::values::read_values;
 use arrayvec::ArrayVec;
@@ -79,15 +78,15 @@ pub fn labels<A: Allocator + Copy, F: Files>(
     let circuit = read_circuit(alloc, name, files)?;
     let seed = Seed::from_hex(seed)?;
     let values = read_values(alloc, circuit.input_widths(), &order.values)?;
-    let garbler = Garbler {
+    let seeded = SeededCircuit {
         alloc,
         circuit: &circuit,
         seed: &seed,
     };
-    garbler.lines_of(order.from, order.count, &values)
+    seeded.lines_of(order.from, order.count, &values)
 }
 
-impl<A: Allocator + Copy> Garbler<'_, A> {
+impl<A: Allocator + Copy> SeededCircuit<'_, A> {
     /// The lines of the circuit's wires under the seed for these values. The row pairs are dropped before the bits are
     /// made. The caller ensures that the values fit the circuit.
     fn lines_of(

@@ -11,7 +11,7 @@ ghost use Rattle.gc_command.specs.OwnFiles.{AreGarbledBytes, AreLabelFilesOf};
 ghost use Rattle.gc_command.specs.Run.{IsFilesMemoryFault};
 
 use crate::fault::Fault;
-use crate::garbler::Garbler;
+use crate::seeded_circuit::SeededCircuit;
 use gc_file::{
     Garbled, GarbledSource, LabelFile, MemSink, Trailer, Version, read_garbled, read_labels,
     write_garbled_file, write_labels,
@@ -20,7 +20,7 @@ use gc_half::Garbling;
 use gc_label::offset;
 use std::alloc::Allocator;
 
-impl<A: Allocator + Copy> Garbler<'_, A> {
+impl<A: Allocator + Copy> SeededCircuit<'_, A> {
     /// The garbled file of the circuit's garbling under the seed, in version 2. The caller ensures that the digest is
     /// the circuit's.
     pub fn own_garbled(&self, digest: &[u8; 32], garbling: Garbling<A>) -> Result<Garbled<A>, Fault>

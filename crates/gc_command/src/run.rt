@@ -15,10 +15,10 @@ use crate::binder::Binder;
 use crate::context::Context;
 use crate::digest::with_digest;
 use crate::fault::Fault;
-use crate::garbler::Garbler;
 use crate::garbling::garble;
 use crate::lines::output_lines;
 use crate::progress::{Progress, Stage};
+use crate::seeded_circuit::SeededCircuit;
 use crate::value_form::ValueForm;
 use crate::values::read_values;
 use gc_circuit::Circuit;
@@ -74,13 +74,13 @@ fn run_text<R: Threads + Wait + Sync, A: Allocator + Copy + Send + Sync, P: Prog
     let alloc = context.alloc;
     let (circuit, garbling, (seed, values), digest) = garble_text(context, order, &text)?;
     drop(text);
-    let garbler = Garbler {
+    let seeded = SeededCircuit {
         alloc,
         circuit: &circuit,
         seed: &seed,
     };
-    let garbled = garbler.own_garbled(&digest, garbling)?;
-    let labels = garbler.own_labels(&values)?;
+    let garbled = seeded.own_garbled(&digest, garbling)?;
+    let labels = seeded.own_labels(&values)?;
     let gates = circuit.gates();
     context.progress.begin(3, 3, Stage::Evaluating { gates });
     let binder = Binder {

@@ -3,7 +3,7 @@
 ghost use Rattle.std.specs.Prelude.{◌≡◌, ◌≤◌, ◌++◌, ◌∷◌, [], Bool, List, length, map, Ok, OnOk};
 ghost use Rattle.hex.specs.Hex.{encode_lower};
 ghost use Rattle.gc_circuit.specs.Value.{binary_digit, value_of_text};
-ghost use Rattle.gc_file.specs.DecodeBits.{bits_number, packed};
+ghost use Rattle.gc_file.specs.DecodeBits.{bits_number};
 ghost use Rattle.gc_command.specs.Lines.{form_by_flag, value_text};
 ghost use Rattle.gc_command.specs.declared.value_form.ValueForm.TheVariants.{Hexadecimal};
 
@@ -31,8 +31,8 @@ impl ValueForm {
         }
     }
 
-    /// Room for the lines of this many values that together have this many bits. Nothing rests on it but how often
-    /// memory is taken.
+    /// Room for the lines of this many values that together have this many bits. Only how often memory is allocated
+    /// depends on it.
     pub fn room(self, values: usize, bits: usize) -> usize {
         match self {
             ValueForm::Binary => bits.saturating_add(values),

@@ -1,6 +1,6 @@
 //! Faults of a circuit's text.
 
-ghost use Rattle.std.specs.Prelude.{◌≡◌, IfSome};
+ghost use Rattle.std.specs.Prelude.{IfSome};
 ghost use Rattle.gc_order.specs.Order.{order_text};
 ghost use Rattle.gc_explain.specs.Explain.{circuit_name, IsCircuitPlace};
 

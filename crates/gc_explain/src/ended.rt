@@ -60,16 +60,14 @@ impl<A: Allocator + Copy, F: Reread> Ended<'_, A, F> {
     {
         self.files.read_again(self.alloc, name)
     }
+
     /// The circuit of the file of this name.
     pub(crate) fn circuit_again(&self, name: &str) -> Option<Circuit<A>>
         ensures { IfSome result (λ circuit.
             IfSome (F.bytes self.now.files.now name.now) (λ held. IsCircuit held circuit)) }
     {
         let text = self.read_again(name)?;
-        match Circuit::read(self.alloc, &text) {
-            Ok(circuit) => Some(circuit),
-            Err(_) => None,
-        }
+        Circuit::read(self.alloc, &text).ok()
     }
 
     /// The garbled file of this name.
@@ -78,10 +76,7 @@ impl<A: Allocator + Copy, F: Reread> Ended<'_, A, F> {
             IfSome (F.bytes self.now.files.now name.now) (λ held. IsGarbledFile held garbled)) }
     {
         let bytes = self.read_again(name)?;
-        match read_garbled(self.alloc, &bytes) {
-            Ok(garbled) => Some(garbled),
-            Err(_) => None,
-        }
+        read_garbled(self.alloc, &bytes).ok()
     }
 
     /// The label files of these names.
@@ -102,9 +97,6 @@ impl<A: Allocator + Copy, F: Reread> Ended<'_, A, F> {
             IfSome (F.bytes self.now.files.now name.now) (λ held. IsLabelFile held file)) }
     {
         let bytes = self.read_again(name)?;
-        match read_labels(self.alloc, &bytes) {
-            Ok(file) => Some(file),
-            Err(_) => None,
-        }
+        read_labels(self.alloc, &bytes).ok()
     }
 }

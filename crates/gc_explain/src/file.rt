@@ -1,7 +1,6 @@
 //! Faults of garbled files and of label files.
 
-ghost use Rattle.std.specs.Prelude.{◌≡◌, ◌≢◌, ◌<◌, IfSome};
-ghost use Rattle.gc_disk.specs.Files.{GivesFile};
+ghost use Rattle.std.specs.Prelude.{◌≢◌, ◌<◌, IfSome};
 ghost use Rattle.gc_explain.specs.Explain.{HasFileFault, IsFilePlace};
 
 use crate::ended::Ended;

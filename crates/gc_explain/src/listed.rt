@@ -1,11 +1,12 @@
 //! The files of a job, and its line in a list.
 
 use crate::ended::Ended;
+use gc_command::words_of_line;
 use gc_disk::Reread;
 use gc_lanes::SIDE_BY_SIDE;
 use gc_order::{JobsOrder, Order};
-use gc_tokens::is_blank;
 use std::alloc::{AllocError, Allocator};
+use std::convert::AsStr;
 use std::str;
 
 /// How many files `jobs` opens before those of the first job: the circuit and the list.
@@ -23,8 +24,8 @@ impl<A: Allocator + Copy, F: Reread> Ended<'_, A, F> {
     /// The names of the files of the job whose file was opened last. There are none where a list can't be reread.
     pub(crate) fn job_names(&self) -> Option<JobNames<A>> {
         match self.order {
-            Order::Eval(eval) => own_names(self.alloc, &eval.garbled, &eval.labels).ok(),
-            Order::Audit(audit) => own_names(self.alloc, &audit.garbled, &audit.labels).ok(),
+            Order::Eval(eval) => names_of(self.alloc, &eval.garbled, &eval.labels, None).ok(),
+            Order::Audit(audit) => names_of(self.alloc, &audit.garbled, &audit.labels, None).ok(),
             Order::Jobs(jobs) => self.last_jobs(jobs)?.pop(),
             _ => None,
         }
@@ -62,31 +63,6 @@ impl<A: Allocator + Copy, F: Reread> Ended<'_, A, F> {
     }
 }
 
-/// The names of the files of a job that no list names.
-fn own_names<A: Allocator + Copy>(
-    alloc: A,
-    garbled: &str,
-    labels: &[String],
-) -> Result<JobNames<A>, AllocError> {
-    Ok(JobNames {
-        garbled: String::from_str(alloc, garbled)?,
-        labels: copies_of(alloc, labels)?,
-        line: None,
-    })
-}
-
-/// Copies of the names.
-fn copies_of<A: Allocator + Copy>(
-    alloc: A,
-    names: &[String],
-) -> Result<Vec<String<A>, A>, AllocError> {
-    let mut copies = Vec::with_capacity(alloc, names.len())?;
-    for name in names {
-        copies.push(String::from_str(alloc, name.as_str())?)?;
-    }
-    Ok(copies)
-}
-
 /// The names on the line of a list that has the word of this number, counted from 0 over all lines, and on up to seven
 /// lines with names before it.
 fn names_up_to<A: Allocator + Copy>(
@@ -98,14 +74,15 @@ fn names_up_to<A: Allocator + Copy>(
     let mut last = Vec::new(alloc);
     for text in list.split(|byte| *byte == b'\n') {
         line = line.saturating_add(1);
-        let words = words_of(alloc, text).ok()?;
-        let count = words.len() as u64;
-        if count > 0 {
+        let words = words_of_line(alloc, str::from_utf8(text).ok()?).ok()?;
+        if let Some((garbled, labels)) = words.split_first() {
             if last.len() == SIDE_BY_SIDE {
                 last.remove(0);
             }
-            last.push(names_of(alloc, &words, line)?).ok()?;
+            last.push(names_of(alloc, garbled, labels, Some(line)).ok()?)
+                .ok()?;
         }
+        let count = words.len() as u64;
         if left < count {
             return Some(last);
         }
@@ -114,28 +91,20 @@ fn names_up_to<A: Allocator + Copy>(
     None
 }
 
-/// The words of a line.
-fn words_of<A: Allocator>(alloc: A, line: &[u8]) -> Result<Vec<&[u8], A>, AllocError> {
-    line.split(|byte| is_blank(*byte))
-        .filter(|part| !part.is_empty())
-        .collect(alloc)
-}
-
-/// The names that are the words of this line.
-fn names_of<A: Allocator + Copy>(alloc: A, words: &[&[u8]], line: u64) -> Option<JobNames<A>> {
-    let (garbled, others) = words.split_first()?;
-    let mut labels = Vec::with_capacity(alloc, others.len()).ok()?;
-    for word in others {
-        labels.push(name_of(alloc, word)?).ok()?;
+/// The names of the files of a job, with its line, if a list names it.
+fn names_of<A: Allocator + Copy, N: AsStr>(
+    alloc: A,
+    garbled: &str,
+    labels: &[N],
+    line: Option<u64>,
+) -> Result<JobNames<A>, AllocError> {
+    let mut copies = Vec::with_capacity(alloc, labels.len())?;
+    for name in labels {
+        copies.push(String::from_str(alloc, name.as_str())?)?;
     }
-    Some(JobNames {
-        garbled: name_of(alloc, garbled)?,
-        labels,
-        line: Some(line),
+    Ok(JobNames {
+        garbled: String::from_str(alloc, garbled)?,
+        labels: copies,
+        line,
     })
-}
-
-/// The name that a word is.
-fn name_of<A: Allocator>(alloc: A, word: &[u8]) -> Option<String<A>> {
-    String::from_str(alloc, str::from_utf8(word).ok()?).ok()
 }

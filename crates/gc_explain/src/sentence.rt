@@ -1,6 +1,6 @@
 //! The explanation of a fault.
 
-ghost use Rattle.std.specs.Prelude.{◌≡◌, ◌++◌, ◌∷◌, [], codes, decimal, string_bytes, IfOk, IfSome, OnOk};
+ghost use Rattle.std.specs.Prelude.{◌≡◌, ◌++◌, [], decimal, string_bytes, IfOk, IfSome, OnOk};
 ghost use Rattle.gc_explain.specs.Explain.{explanation_line};
 ghost use Rattle.gc_explain.specs.Places.{byte_place, file_place, line_place, located_place};
 

@@ -50,13 +50,10 @@ abbrev pub explain_flag : Rule
 explain_flag =
     record (new_rule (codes "explain")) { long = Some (codes "explain"); action = Some SetTrue }
 
--- a command whose first word is a circuit's file
-abbrev pub new_command : List ℕ → App
-new_command name = with_rule (new_app name) (required_word (codes "circuit"))
-
--- the same with the flag `--explain`
+-- a command whose first word is a circuit's file, with the flag `--explain`
 abbrev pub command_on_circuit : List ℕ → App
-command_on_circuit name = with_rule (new_command name) explain_flag
+command_on_circuit name =
+    with_rule (with_rule (new_app name) (required_word (codes "circuit"))) explain_flag
 
 -- and whose second word is the seed
 abbrev pub command_with_seed : List ℕ → App
@@ -151,28 +148,20 @@ named_program =
       };
     }
 
--- The program with the commands up to `stats`,
-abbrev pub circuit_program : App
-circuit_program =
+-- The program with its commands.
+abbrev pub program : App
+program =
     let with_run = with_subcommand named_program run_command.top in
     let with_plain = with_subcommand with_run plain_command.top in
     let with_check = with_subcommand with_plain check_command.top in
     let with_locate = with_subcommand with_check locate_command.top in
-    with_subcommand with_locate stats_command.top
-
--- with those up to `jobs`,
-abbrev pub file_program : App
-file_program =
-    let with_order = with_subcommand circuit_program order_command.top in
+    let with_stats = with_subcommand with_locate stats_command.top in
+    let with_order = with_subcommand with_stats order_command.top in
     let with_garble = with_subcommand with_order garble_command.top in
     let with_deal = with_subcommand with_garble deal_command.top in
     let with_eval = with_subcommand with_deal eval_command.top in
-    with_subcommand with_eval jobs_command.top
-
--- and with all its commands.
-abbrev pub program : App
-program =
-    let with_labels = with_subcommand file_program labels_command.top in
+    let with_jobs = with_subcommand with_eval jobs_command.top in
+    let with_labels = with_subcommand with_jobs labels_command.top in
     with_subcommand with_labels audit_command.top
 
 -- The program has a command of this name.

@@ -2,13 +2,7 @@
 
 ghost use Rattle.std.specs.Prelude.{ℕ, List, IfOk, codes};
 ghost use Rattle.clap.specs.Words.{App, Rule, new_rule, with_rule, with_subcommand};
-ghost use Rattle.gc_order.specs.Order.{HasRule, HasShape, audit_command, check_command};
-ghost use Rattle.gc_order.specs.Order.{circuit_program, command_on_circuit, command_with_seed};
-ghost use Rattle.gc_order.specs.Order.{deal_command, eval_command, explain_flag, file_program};
-ghost use Rattle.gc_order.specs.Order.{garble_command, hex_flag};
-ghost use Rattle.gc_order.specs.Order.{jobs_command, labels_command, locate_command, more_words};
-ghost use Rattle.gc_order.specs.Order.{named_option, named_program, new_command, number_option, order_command, plain_command, program};
-ghost use Rattle.gc_order.specs.Order.{required_word, run_command, stats_command, workers_option};
+ghost use Rattle.gc_order.specs.Order.{HasRule, HasShape, audit_command, check_command, command_on_circuit, command_with_seed, deal_command, eval_command, explain_flag, garble_command, hex_flag, jobs_command, labels_command, locate_command, more_words, named_option, named_program, number_option, order_command, plain_command, program, required_word, run_command, stats_command, workers_option};
 
 use crate::help::{
     AUDIT_HELP, AUDITED_HELP, CHECK_HELP, CIRCUIT_HELP, COUNT_HELP, DEAL_HELP, EVAL_HELP,
@@ -30,32 +24,18 @@ const MOST: u64 = 4_294_967_295;
 pub(crate) fn halfgates<'a>(alloc: Global) -> Result<Command<'a>, AllocError>
     ensures { IfOk result (HasShape program) }
 {
-    let program = file_program(alloc)?;
-    let program = with_command(program, labels(alloc))?;
-    with_command(program, audit(alloc))
-}
-
-/// The program, with the commands up to `jobs`.
-fn file_program<'a>(alloc: Global) -> Result<Command<'a>, AllocError>
-    ensures { IfOk result (HasShape file_program) }
-{
-    let program = circuit_program(alloc)?;
-    let program = with_command(program, order(alloc))?;
-    let program = with_command(program, garble(alloc))?;
-    let program = with_command(program, deal(alloc))?;
-    let program = with_command(program, eval(alloc))?;
-    with_command(program, jobs(alloc))
-}
-
-/// The program, with the commands up to `stats`.
-fn circuit_program<'a>(alloc: Global) -> Result<Command<'a>, AllocError>
-    ensures { IfOk result (HasShape circuit_program) }
-{
     let program = with_command(named_program(alloc), run(alloc))?;
     let program = with_command(program, plain(alloc))?;
     let program = with_command(program, check(alloc))?;
     let program = with_command(program, locate(alloc))?;
-    with_command(program, stats(alloc))
+    let program = with_command(program, stats(alloc))?;
+    let program = with_command(program, order(alloc))?;
+    let program = with_command(program, garble(alloc))?;
+    let program = with_command(program, deal(alloc))?;
+    let program = with_command(program, eval(alloc))?;
+    let program = with_command(program, jobs(alloc))?;
+    let program = with_command(program, labels(alloc))?;
+    with_command(program, audit(alloc))
 }
 
 /// The program with one command more.
@@ -216,22 +196,9 @@ fn command_on_circuit<'a>(
 ) -> Result<Command<'a>, AllocError>
     ensures { IfOk result (HasShape (command_on_circuit name.entry.now)) }
 {
-    with_arg(new_command(alloc, name, about, help), explain_arg(alloc))
-}
-
-/// A command whose first argument is a circuit's file.
-fn new_command<'a>(
-    alloc: Global,
-    name: &'a str,
-    about: &'a str,
-    help: &'a str,
-) -> Result<Command<'a>, AllocError>
-    ensures { IfOk result (HasShape (new_command name.entry.now)) }
-{
-    Command::new(alloc, name)
-        .about(about)
-        .after_help(help)
-        .arg(word_arg(alloc, "circuit", "CIRCUIT", CIRCUIT_HELP))
+    let command = Command::new(alloc, name).about(about).after_help(help);
+    let circuit = word_arg(alloc, "circuit", "CIRCUIT", CIRCUIT_HELP);
+    with_arg(command.arg(circuit), explain_arg(alloc))
 }
 
 /// A command that garbles a circuit: its second argument is the seed.

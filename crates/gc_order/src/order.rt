@@ -2,9 +2,7 @@
 
 ghost use Rattle.std.specs.Prelude.{◌≡◌, map, IfOk, Some, string_bytes};
 ghost use Rattle.clap.specs.Words.{FailsBy, fault_of, found_of, rows_of};
-ghost use Rattle.gc_order.specs.Order.{IsCommandName, audit_in, by_depth_in, check_in, command_in, deal_in};
-ghost use Rattle.gc_order.specs.Order.{eval_in, explains_in, garble_in, jobs_in, labels_in, locate_in, order_in};
-ghost use Rattle.gc_order.specs.Order.{plain_in, program, run_in, stats_in, order_text};
+ghost use Rattle.gc_order.specs.Order.{IsCommandName, audit_in, by_depth_in, check_in, command_in, deal_in, eval_in, explains_in, garble_in, jobs_in, labels_in, locate_in, order_in, plain_in, program, run_in, stats_in, order_text};
 
 use crate::commands::halfgates;
 use crate::words::{is_flagged, number_of, version_of, word_of, words_of};

@@ -1,4 +1,4 @@
-use Rattle.std.proofs.Common.{◌≡◌, ◌≢◌, ◌∙◌, ◌∷◌, codes, map, refl, string_bytes, subst, sym}
+use Rattle.std.proofs.Common.{◌≡◌, ◌∙◌, codes, refl, string_bytes, subst, sym}
 use Rattle.gc_cli.specs.Arguments.{IsOption, no_more, one_more}
 use Rattle.gc_cli.proofs.ArgumentsLemmas.{first-word, no-option-plain, none-plain, option-plain, other-text, plain-later, same-text}
 use Rattle.gc_cli.proofs.arguments.are_plain.Goals as goal

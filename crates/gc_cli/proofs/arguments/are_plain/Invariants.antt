@@ -1,4 +1,4 @@
-use Rattle.std.proofs.Common.{ℕ, List, map, string_bytes, length}
+use Rattle.std.proofs.Common.{map, string_bytes, length}
 use Rattle.gc_cli.specs.Arguments.{ArePlain}
 use Rattle.gc_cli.proofs.arguments.are_plain.Given as goal
 

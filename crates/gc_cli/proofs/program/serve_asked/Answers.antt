@@ -8,21 +8,20 @@ use Rattle.gc_cli.proofs.program.serve_asked.Goals as goal
 pub returns-in-Ok-clause-fault : goal.returns-in-Ok-clause-fault
 returns-in-Ok-clause-fault g c = λ _ words old new is.
     let read = rw c.in-Ok.is at is in (
-      c.in-Err-print_answer.fault,
+      c.in-Err-print_result.fault,
       (
         inl (
           order_text c.in-Ok.asked.order,
           read.0,
-          rw c.report_order.ensures.same c.in-Err-print_answer.ensures.fault,
+          rw c.tell.ensures.same c.in-Err-print_result.ensures.fault,
         ),
         (
-          c.report_order.ensures.printed.0,
-          c.report_order.ensures.printed.1,
+          _,
+          c.report-status.ensures.printed,
           inr (
             order_text c.in-Ok.asked.order,
             read.0,
-            rw (← read.1)
-                c.report_order.ensures.printed.2,
+            rw (← read.1) c.tell.ensures.explained,
           ),
         ),
       ),

@@ -7,6 +7,6 @@ returns-in-Some-clause-explained g c = inr (
   (
     c.in-Some.line.items,
     c.in-Some.ensures,
-    rw c.deref.ensures.value at c.write_explanation.ensures,
+    search (rules, c.write_all.ensures),
   ),
 )

@@ -1,4 +1,12 @@
+use Rattle.std.proofs.Common.{rules}
+use Rattle.std.specs.Prelude.{IfOk, codes}
+use Rattle.clap.specs.Words.{new_app, with_rule}
+use Rattle.gc_order.specs.Order.{HasShape, required_word}
 use Rattle.gc_order.proofs.commands.command_on_circuit.Goals as goal
 
 pub returns : goal.returns
-returns c = c.with_arg.ensures _ _ c.new_command.ensures c.explain_arg.ensures
+returns c =
+    let made : IfOk c.arg.result
+    (HasShape (with_rule (new_app c.args.name.now) (required_word (codes "circuit")))) =
+    search rules in
+    c.with_arg.ensures _ _ made c.explain_arg.ensures

@@ -1,5 +1,5 @@
 use Rattle.gc_command.proofs.Names.{take, map, AreLabelFilesOf}
-use Rattle.gc_command.proofs.garbler.Garbler.own_labels.Given as goal
+use Rattle.gc_command.proofs.seeded_circuit.SeededCircuit.own_labels.Given as goal
 
 abbrev pub invariant-loop-i : goal.invariant-loop-i
 invariant-loop-i g l =

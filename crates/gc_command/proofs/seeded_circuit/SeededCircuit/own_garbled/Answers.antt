@@ -1,7 +1,7 @@
 use Rattle.gc_command.proofs.Names.{err_from_is_err_and, FirstGarbledFault, file_not_fault}
 use Rattle.gc_command.proofs.FaultLemmas.{file-memory}
 use Rattle.gc_command.proofs.OwnFilesLemmas.{own-garbled, own-parts}
-use Rattle.gc_command.proofs.garbler.Garbler.own_garbled.Goals as goal
+use Rattle.gc_command.proofs.seeded_circuit.SeededCircuit.own_garbled.Goals as goal
 
 pub returns-in_err-read_garbled-clause-fault : goal.returns-in_err-read_garbled-clause-fault
 returns-in_err-read_garbled-clause-fault g c =

@@ -2,7 +2,7 @@ use Rattle.gc_command.proofs.Names.{◌≡◌, arith, common_steps, err_from_is_
 use Rattle.gc_file.proofs.LabelFileLemmas.{not_both, one_label_file}
 use Rattle.gc_command.proofs.FaultLemmas.{file-memory}
 use Rattle.gc_command.proofs.OwnFilesLemmas.{own-label-file}
-use Rattle.gc_command.proofs.garbler.Garbler.own_label_file.Goals as goal
+use Rattle.gc_command.proofs.seeded_circuit.SeededCircuit.own_label_file.Goals as goal
 
 pub returns-in_err-read_labels-clause-fault : goal.returns-in_err-read_labels-clause-fault
 returns-in_err-read_labels-clause-fault g c =

@@ -1,6 +1,6 @@
 use Rattle.std.proofs.Common.{◌≡◌, ℕ, ◌++◌, List, length}
 use Rattle.std.specs.Io.KnownBytes.{Appends}
-use Rattle.gc_cli.proofs.answer.print_labels.Given as goal
+use Rattle.gc_cli.proofs.order_result.print_labels.Given as goal
 
 abbrev pub invariant-loop-piece : goal.invariant-loop-piece
 invariant-loop-piece g l = record {

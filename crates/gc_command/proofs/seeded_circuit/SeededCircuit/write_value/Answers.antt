@@ -1,6 +1,6 @@
 use Rattle.gc_command.proofs.Names.{IfSome_then}
 use Rattle.gc_command.proofs.WroteLemmas.{written-line}
-use Rattle.gc_command.proofs.garbler.Garbler.write_value.Goals as goal
+use Rattle.gc_command.proofs.seeded_circuit.SeededCircuit.write_value.Goals as goal
 
 pub returns-clause-written : goal.returns-clause-written
 returns-clause-written g c = λ n.

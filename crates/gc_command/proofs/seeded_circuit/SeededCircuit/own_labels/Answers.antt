@@ -1,6 +1,6 @@
 use Rattle.std.proofs.Common.{arith}
 use Rattle.gc_command.proofs.OwnFilesLemmas.{value-at, labels-more, own-width}
-use Rattle.gc_command.proofs.garbler.Garbler.own_labels.Goals as goal
+use Rattle.gc_command.proofs.seeded_circuit.SeededCircuit.own_labels.Goals as goal
 
 pub own_label_file-requires : goal.own_label_file-requires
 own_label_file-requires g c =

@@ -1,12 +1,12 @@
-//! Who garbles a circuit.
+//! A circuit, and the seed of its garbling.
 
 use gc_circuit::Circuit;
 use gc_label::Seed;
 use std::alloc::Allocator;
 
-/// A garbler: a circuit, and the seed of its garbling.
+/// A circuit, and the seed of its garbling.
 #[derive(Drop)]
-pub struct Garbler<'a, A: Allocator> {
+pub struct SeededCircuit<'a, A: Allocator> {
     /// The allocator.
     pub alloc: A,
     /// The circuit.
