@@ -11,8 +11,8 @@ is_v3() {
 } 2>/dev/null
 
 # Finds the program of dist/, the release, and the folder of its library, for processors of this kind. Their paths are
-# then $program and $library. Only where ARM64's loader is there, uname is asked: under an emulator, /proc/cpuinfo may be
-# about another processor.
+# then $program and $library. Only where ARM64's loader is there, uname is asked: under an emulator, /proc/cpuinfo may
+# be about another processor.
 find_released() {
     program=$top/dist/halfgates library=$top/dist/lib
     if [ -e /lib/ld-linux-aarch64.so.1 ] && [ "$(uname -m)" = aarch64 ]; then

@@ -1,8 +1,8 @@
 # Which sources a program or the library is built from, for the build, the release, the installation and the
 # benchmarks. A script sources it, with the folder of the repository as $top.
 
-# Where the sources of programs or of the library lie: crates.txt, c/, and src/ and specs/ of the crates that they depend
-# on. The library has its headers too.
+# Where the sources of programs or of the library lie: crates.txt, c/, and src/ and specs/ of the crates that they
+# depend on. The library has its headers too.
 places_of_sources() {
     names=$(awk -F: -v targets="$*" '
         { sub(/#.*/, "") }

@@ -1,4 +1,4 @@
-"""A small stack, and address spaces of many sizes: a run ends as without a limit, or by a fault, and never by a signal."""
+"""A small stack, and address spaces of many sizes: a run ends as without a limit or by a fault, never by a signal."""
 import resource
 import subprocess
 

@@ -89,8 +89,8 @@ class OfTheProgram(ProgramTest):
         return found
 
     def check(self, program, decisions, words, hidden=(), public=()):
-        """Apart from the kit's code and from what is public, the program decides by secrets at most so often. Whether an
-        argument is `--args-from` is one decision for each."""
+        """Apart from the kit's code and from what is public, the program decides by secrets at most so often. Whether
+        an argument is `--args-from` is one decision for each."""
         with self.subTest(program=program, words=words):
             found = self.reports(program, words, hidden)
             self.assertTrue(found, "nothing was marked as secret")

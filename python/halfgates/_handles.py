@@ -178,9 +178,9 @@ class Circuit(Handle):
         return it
 
     def garble_many(self, seeds: Iterable[Buffer]) -> List["Garbling"]:
-        """Garbles under each of these seeds, as `garble` does, in their order. Two at a time are made side by side.
+        """Garbles under each of these seeds, as `garble` does, in their order.
 
-        It takes less time than as many calls of `garble`. Faults: 23, 62. After a fault there is no garbling.
+        With AVX2 two at a time are made side by side, which takes less time than as many calls of `garble`. Faults: 23, 62. After a fault there is no garbling.
         """
         keys = bytearray()
         for seed in seeds:

@@ -324,8 +324,8 @@ impl Circuit {
         Ok(Garbling::new(handle, Arc::clone(&self.shape)))
     }
 
-    /// Garbles under each of these seeds, as [`Circuit::garble`] does, in their order. Two at a
-    /// time are garbled side by side, which takes less time with AVX2.
+    /// Garbles under each of these seeds, as [`Circuit::garble`] does, in their order. With AVX2
+    /// two at a time are garbled side by side, which takes less time.
     ///
     /// # Errors
     ///

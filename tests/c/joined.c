@@ -1,6 +1,6 @@
 /*
- * Circuits that follow one another under one offset: an adder of 64 bits, full adder after full adder, each carry a label
- * that comes out of one and goes into the next. And what comes from labels is what comes from a seed.
+ * Circuits that follow one another under one offset: an adder of 64 bits, full adder after full adder, each carry a
+ * label that comes out of one and goes into the next. And what comes from labels is what comes from a seed.
  */
 #include "check.h"
 

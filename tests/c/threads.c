@@ -1,7 +1,7 @@
 /*
- * Eight threads, each with a handle of its own on one circuit, or with a circuit of its own; eight that use one circuit,
- * one garbling and one job at once, each with a garbler and an evaluator of its own, and with a handle of its own that
- * takes the digest; and a garbling and a garbler that a thread hands to another.
+ * Eight threads, each with a handle of its own on one circuit, or with a circuit of its own; eight that use one
+ * circuit, one garbling and one job at once, each with a garbler and an evaluator of its own, and with a handle of its
+ * own that takes the digest; and a garbling and a garbler that a thread hands to another.
  */
 #include "check.h"
 #include <pthread.h>

@@ -14,9 +14,10 @@ const READ: Fault = Fault::CannotRead;
 
 const WRITE: Fault = Fault::CannotWrite;
 
-/// Orders, and the fault where each of their calls fails. Those of `order`, `garble` and `deal` are to read the circuit,
-/// to create the file and to keep it; those of `eval` and `audit` to read the circuit, to open the garbled file and to
-/// read each label file; and those of `jobs` to read the circuit, the list, the garbled file and each label file.
+/// Orders, and the fault where each of their calls fails. Those of `order`, `garble` and `deal` are to read the
+/// circuit, to create the file and to keep it; those of `eval` and `audit` to read the circuit, to open the garbled
+/// file and to read each label file; and those of `jobs` to read the circuit, the list, the garbled file and each label
+/// file.
 static ORDERS: [(&[&str], &[Fault]); 12] = [
     (&["run", "c.txt", SEED, "0", "1"], &[READ]),
     (&["plain", "c.txt", "0", "1"], &[READ]),
@@ -84,8 +85,8 @@ fn each_call_in_turn(rt: HostRuntime) -> Result<(), Fail> {
     Ok(())
 }
 
-/// Orders with a source or a sink, how many of its bytes must go well, and the fault where fewer do. Of a garbled file of
-/// 113 bytes a source is asked for one more, which it lacks.
+/// Orders with a source or a sink, how many of its bytes must go well, and the fault where fewer do. Of a garbled file
+/// of 113 bytes a source is asked for one more, which it lacks.
 static STREAMS: [(&[&str], usize, Fault); 5] = [
     (&["eval", "c.txt", "g", "0", "1"], 114, READ),
     (&["audit", "c.txt", SEED, "g", "0", "1"], 114, READ),
