@@ -1,9 +1,9 @@
 //! A whole run of the program, from the words of its command line to its status.
 
-ghost use Rattle.std.specs.Prelude.{◌≡◌, ◌<◌, ◌≤◌, ◌⊎◌, ℕ, List, map, string_bytes, IfErr, IfOk, MatchResult, OnOk};
+ghost use Rattle.std.specs.Prelude.{◌≡◌, ◌<◌, ◌≤◌, ◌⊎◌, ℕ, List, map, string_bytes};
 ghost use Rattle.gc_disk.specs.Files.{HasFailed};
-ghost use Rattle.gc_cli.specs.Arguments.{IsRefusedLine, StandForThemselves};
-ghost use Rattle.gc_cli.specs.CommandLine.{IsAsked, IsMistaken};
+ghost use Rattle.gc_cli.specs.Arguments.{StandForThemselves};
+ghost use Rattle.gc_cli.specs.CommandLine.{IsMistaken};
 ghost use Rattle.gc_cli.specs.Serve.{AskToWrite, EndsByFault, FindsDishonest, IsSuccessful};
 ghost use Rattle.gc_cli.specs.WholeRun.{EndsByRefusal, IsOf, LackFile};
 
@@ -11,10 +11,8 @@ use crate::arguments::{Refusal, arguments_of, stand_for_themselves};
 use crate::command_line::Heap;
 use crate::output::{Console, Output};
 use crate::program::{DISHONEST, DONE, FAULT, USAGE, report, serve_asked};
-use clap::Error;
 use gc_command::{Context, Fault, Progress};
-use gc_disk::{Files, Reread};
-use gc_order::Asked;
+use gc_disk::Reread;
 use std::io::Write;
 use std::sync::Wait;
 use std::thread::Threads;
@@ -94,41 +92,20 @@ pub fn serve<R: Threads + Wait + Sync, F: Reread, O: Write, E: Write, P: Progres
     ensures unwritten { result ≡ USAGE
         → (name : List ℕ) → F.bytes files.new name ≡ F.bytes files.old name }
 {
-    match asked_in(heap, words, files) {
-        Ok(asked) => {
-            let context = Context {
-                rt,
-                alloc: heap.alloc(),
-                progress,
-            };
-            serve_asked(&context, asked, files, console)
-        }
+    let context = Context {
+        rt,
+        alloc: heap.alloc(),
+        progress,
+    };
+    if stand_for_themselves(words) {
+        return serve_asked(&context, heap.order(words), files, console);
+    }
+    match arguments_of(context.alloc, words, files) {
+        Ok(arguments) => serve_asked(&context, heap.order(&arguments), files, console),
         Err(Refusal::NoFile) => lack_file(&mut console.err),
         Err(Refusal::CannotRead) => report(Fault::CannotRead, &mut console.err),
         Err(Refusal::Memory) => report(Fault::Memory, &mut console.err),
     }
-}
-
-/// What a command line asks for, with the arguments from files.
-fn asked_in<F: Files>(
-    heap: &mut Heap,
-    words: &[String],
-    files: &mut F,
-) -> Result<Result<Asked, Error>, Refusal>
-    ensures asked { IfOk result (λ asked. IsOf (F.bytes files.old) (map string_bytes words.now)
-        (λ arguments. IsAsked arguments heap.old heap.new asked)) }
-    ensures themselves { StandForThemselves (map string_bytes words.now) → MatchResult result
-        (IsAsked (map string_bytes words.now) heap.old heap.new) (λ _. ⊥) }
-    ensures refusal { IfErr result (IsRefusedLine (F.bytes files.old)
-        (HasFailed (F.failures files.old) (F.failures files.new)) (map string_bytes words.now)) }
-    ensures unfailed { OnOk result (F.failures files.new ≡ F.failures files.old) }
-    ensures same { (name : List ℕ) → F.bytes files.new name ≡ F.bytes files.old name }
-{
-    if stand_for_themselves(words) {
-        return Ok(heap.order(words));
-    }
-    let arguments = arguments_of(heap.alloc(), words, files)?;
-    Ok(heap.order(&arguments))
 }
 
 /// Says on standard error, as clap does, that the option lacks its file. Where that fails, nothing can be said.
