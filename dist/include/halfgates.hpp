@@ -679,7 +679,7 @@ public:
         return halfgates::garbling(at, shape_);
     }
 
-    /* Garbles under each of these seeds, two at a time side by side. */
+    /* Garbles under each of these seeds: with AVX2 two at a time, side by side. */
     HALFGATES_NODISCARD std::vector<halfgates::garbling> garble_many(const std::vector<seed> &keys) const {
         static_assert(sizeof(seed) == 32, "seeds are one after another");
         std::vector<halfgates::garbling> made;
