@@ -73,7 +73,7 @@ blank_less text i some fits blank so_far =
     rw (one, take_more text (i - 1) 0 (omega arith), shorter) at so_far
 
 -- The last token of a text whose last byte is in it.
-last_run : (xs : List ℕ) (s : ℕ) → s < length xs → NoBlank (drop s xs) →
+pub last_run : (xs : List ℕ) (s : ℕ) → s < length xs → NoBlank (drop s xs) →
     (0 < s → is_blank (slice_index xs (s - 1)) ≡ true) →
     tokens xs ≡ tokens (take s xs) ++ drop s xs ∷ []
 last_run xs s within none ends =
@@ -86,48 +86,16 @@ last_run xs s within none ends =
     (λ more. absurd (omega arith)) in
     rw (take-append-drop, rw (append-nil, tokens-nil) at last) at cut
 
-take_take : {X : Type 0} (n m : ℕ) (l : List X) → n ≤ m → take n (take m l) ≡ take n l
+pub take_take : {X : Type 0} (n m : ℕ) (l : List X) → n ≤ m → take n (take m l) ≡ take n l
 take_take n m l low = grind (arith, common_steps)
 
-front_of : {X : Type 0} (a b : List X) → take (length (a ++ b) - length b) (a ++ b) ≡ a
+pub front_of : {X : Type 0} (a b : List X) → take (length (a ++ b) - length b) (a ++ b) ≡ a
 front_of a b = grind (arith, common_steps)
 
 -- Where some tokens end, some bytes come before.
-some_before : (text : List ℕ) (end : ℕ) → 0 < length (tokens (take end text)) → 0 < end
+pub some_before : (text : List ℕ) (end : ℕ) → 0 < length (tokens (take end text)) → 0 < end
 some_before text zero some = let none = rw tokens-nil at some in absurd (omega arith)
 some_before text (suc end) some = omega arith
-
--- Where the last token of a text begins.
-pub record LastToken (text : List ℕ) (start : ℕ) : Type 0 where
-  pub within : start < length text
-  pub front : tokens (take start text) ≡ take (length (tokens text) - 1) (tokens text)
-  pub begins : is_blank (slice_index text start) ≡ false
-
-pub last_token : (text : List ℕ) (end s : ℕ) → 0 < length (tokens text) → end ≤ length text →
-    tokens (take end text) ≡ tokens text →
-    (0 < end → is_blank (slice_index text (end - 1)) ≡ false) → s ≤ length (take end text) →
-    NoBlank (drop s (take end text)) →
-    (0 < s → is_blank (slice_index (take end text) (s - 1)) ≡ true) → LastToken text s
-last_token text end s some fits same fits_end low none starts =
-    let len = length-take-le end text fits in
-    let any = some_before text end (rw same some) in
-    let below : s < end = elim (cases_lt s end) [
-      | inl below ↦ below
-      | inr past ↦
-          let at_end : s ≡ end = omega arith in
-          let byte = get_or-take end text (end - 1) 0 (omega arith) in
-          let blank = rw (at_end, byte) at (starts (omega arith)) in
-          absurd (both_ways _ (fits_end any) blank)
-    ] in
-    let run = last_run (take end text) s (omega arith) none starts in
-    let parted = rw (same, take_take s end text (omega arith)) at run in
-    let first : slice_index text s ≡ get_or (drop s (take end text)) 0 0 =
-    grind (arith, common_steps) in
-    record {
-      within = omega arith;
-      front = rw (parted, front_of (tokens (take s text)) (drop s (take end text) ∷ [])) refl;
-      begins = rw first (none 0 0 (grind (arith, common_steps)));
-    }
 
 -- The column after the beginning of a line.
 in_line : (column : ℕ) (run : List ℕ) → All (λ b. (b == 10) ≡ false) run →

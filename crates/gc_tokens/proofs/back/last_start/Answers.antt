@@ -1,9 +1,34 @@
-use Rattle.gc_tokens.proofs.BackLemmas.{last_token}
+use Rattle.std.proofs.Common.{◌≡◌, ◌-◌, ◌<◌, [], ◌∷◌, take, drop, get_or, slice_index, inl, inr, refl, arith}
+use Rattle.std.proofs.lemmas.Bool.{both_ways, cases_lt}
+use Rattle.std.proofs.lemmas.Grind.{common_steps}
+use Rattle.std.proofs.lemmas.List.{get_or-take, length-take-le}
+use Rattle.gc_netlist.specs.Text.{tokens}
+use Rattle.gc_tokens.proofs.BackLemmas.{last_run, take_take, front_of, some_before}
 use Rattle.gc_tokens.proofs.back.last_start.Goals as goal
 
 pub returns : goal.returns
 returns c =
-    let t = last_token c.args.text.now c.last_end-end.result c.run_start.result c.requires
-    c.last_end-end.ensures.within c.last_end-end.ensures.same c.last_end-end.ensures.ends
-    c.run_start.ensures.within c.run_start.ensures.run c.run_start.ensures.ends in
-    record { within = t.within; front = t.front; begins = t.begins }
+    let text = c.args.text.now in
+    let end = c.last_end-end.result in
+    let s = c.run_start.result in
+    let before = c.last_end-end.ensures in
+    let start = c.run_start.ensures in
+    let len = length-take-le end text before.within in
+    let any = some_before text end (rw before.same c.requires) in
+    let below : s < end = elim (cases_lt s end) [
+      | inl below ↦ below
+      | inr past ↦
+          let at_end : s ≡ end = omega arith in
+          let byte = get_or-take end text (end - 1) 0 (omega arith) in
+          let blank = rw (at_end, byte) at (start.ends (omega arith)) in
+          absurd (both_ways _ (before.ends any) blank)
+    ] in
+    let run = last_run (take end text) s (omega arith) start.run start.ends in
+    let parted = rw (before.same, take_take s end text (omega arith)) at run in
+    let first : slice_index text s ≡ get_or (drop s (take end text)) 0 0 =
+    grind (arith, common_steps) in
+    record {
+      within = omega arith;
+      front = rw (parted, front_of (tokens (take s text)) (drop s (take end text) ∷ [])) refl;
+      begins = rw first (start.run 0 0 (grind (arith, common_steps)));
+    }
