@@ -11,6 +11,13 @@ use Rattle.gc_netlist.specs.Text.{tokens, is_blank, is_digit, value_of, number_o
 use Rattle.gc_netlist.specs.Reading.{number_at}
 use Rattle.gc_tokens.proofs.TokenLemmas.{NoBlank, tokens_begin, tokens_take}
 
+pub value_none : value_of [] ≡ 0
+unfolding value_of
+value_none = refl
+
+pub digit_most : (b : ℕ) → is_digit b ≡ true → b ≤ 57
+digit_most b h = grind (arith, nat_tests)
+
 -- one more byte
 pub value_more : (t : List ℕ) (i : ℕ) → i < length t →
     value_of (take (i + 1) t) ≡ value_of (take i t) * 10 + (get_or t i 0 - 48)

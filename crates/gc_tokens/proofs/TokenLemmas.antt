@@ -20,6 +20,10 @@ pub tokens-nil : tokens [] ≡ []
 unfolding tokens
 tokens-nil = refl
 
+pub tokens_empty : (text : List ℕ) → length text ≡ 0 → tokens text ≡ []
+tokens_empty [] none = tokens-nil
+tokens_empty (b ∷ text) none = absurd (omega arith)
+
 -- no byte is a blank
 abbrev pub NoBlank : List ℕ → Type 0
 NoBlank = All (λ b. is_blank b ≡ false)
@@ -92,11 +96,6 @@ tokens_begin front (y ∷ ys) some none = elim (cases_Bool (is_blank y)) [
       (All-push (λ x. is_blank x ≡ false) front y none other) in
       record { more = y ∷ b.more; later = b.later; is = simp append_assoc at b.is }
 ]
-
--- whether there are bytes, by the test of their number
-pub empty_is_nil : (text : List ℕ) → (length text == 0) ≡ true → text ≡ []
-empty_is_nil [] h = refl
-empty_is_nil (b ∷ t) h = grind (arith, nat_tests)
 
 pub some_bytes : (text : List ℕ) (b : Bool) → b ≡ (length text == 0) → b ≡ false → 0 < length text
 some_bytes text b h empty = grind (arith, nat_tests)

@@ -7,6 +7,7 @@ ghost use Rattle.gc_netlist.specs.Place.{line_after, column_after};
 use crate::number::is_blank;
 
 /// The number of bytes up to the last that is no blank.
+#[tactic(auto, using(crate::proofs::BackLemmas::blank_less))]
 pub(crate) fn last_end(text: &[u8]) -> usize
     ensures within { result ≤ length text.now }
     ensures same { tokens (take result text.now) ≡ tokens text.now }
@@ -113,6 +114,7 @@ fn line_start(text: &[u8]) -> usize
 
 /// The column of what comes after these bytes, counted from 1. Each byte takes a column, and after byte 10 the columns
 /// begin anew.
+#[tactic(auto, using(crate::proofs::BackLemmas::column_in_line))]
 pub fn column_after(before: &[u8]) -> u64
     ensures { result ≡ column_after before.now }
 {

@@ -18,6 +18,7 @@ const SHORT: usize = 9;
 
 /// The number that the text begins with, and how many bytes it takes, where it is short and a blank follows it. The
 /// loop has few turns, so that the compiler unrolls it, and no value is too large.
+#[tactic(auto, using(crate::proofs::NumberLemmas::value_none, crate::proofs::NumberLemmas::digit_most))]
 #[inline(always)]
 pub(crate) fn short_number(text: &[u8]) -> Option<(u32, usize)>
     ensures { IfSome result (λ r. (r.1 < length text.now)
@@ -44,6 +45,7 @@ pub(crate) fn short_number(text: &[u8]) -> Option<(u32, usize)>
 
 /// The number that the text begins with, and how many bytes it takes. Leading zeros are accepted. Few numbers are read
 /// here: the others don't pay for it.
+#[tactic(auto, using(std::proofs::lemmas::Bool::Decides::nat_tests, crate::proofs::NumberLemmas::value_none, crate::proofs::NumberLemmas::value_more, crate::proofs::NumberLemmas::digits_more, crate::proofs::TokenLemmas::tokens_empty))]
 #[inline(never)]
 pub(crate) fn leading_number(text: &[u8]) -> Result<(u32, usize), ReadFault>
     requires { 0 < length text.now → is_blank (slice_index text.now 0) ≡ false }

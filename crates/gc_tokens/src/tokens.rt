@@ -31,6 +31,7 @@ impl<'a> Model for Tokens<'a> {
 }
 
 /// The text from its first byte that is no blank.
+#[tactic(auto, using(crate::proofs::TokenLemmas::blank_passed))]
 #[inline(always)]
 fn skip_blanks(text: &[u8]) -> &[u8]
     ensures same { tokens result.now ≡ tokens text.now }
@@ -46,6 +47,7 @@ fn skip_blanks(text: &[u8]) -> &[u8]
 }
 
 /// The number of bytes before the first blank of the text.
+#[tactic(auto, using(crate::proofs::TokenLemmas::run_more))]
 fn run_len(text: &[u8]) -> usize
     ensures within { result ≤ length text.now }
     ensures run { All (λ b. is_blank b ≡ false) (take result text.now) }
@@ -87,6 +89,7 @@ impl<'a> Tokens<'a> {
     }
 
     /// The bytes before the cursor.
+    #[tactic(auto, using(crate::proofs::BackLemmas::cut_parted))]
     fn before(&self) -> &'a [u8]
         ensures front { result.now ≡ take (length result.now) self.now.text }
         ensures within { length result.now ≤ length self.now.text }
@@ -153,6 +156,7 @@ impl<'a> Tokens<'a> {
     }
 
     /// Takes a token that is due. Where none is left, it returns `Truncated`.
+    #[tactic(auto, using(std::proofs::lemmas::Bool::Decides::nat_tests, crate::proofs::TokenLemmas::tokens_empty, crate::proofs::TokenLemmas::some_run, crate::proofs::TokenLemmas::tokens_take))]
     #[inline(always)]
     pub(crate) fn token(&mut self) -> Result<&'a [u8], ReadFault>
         ensures read { MatchResult result (λ t. token_at self.old.left ≡ Ok (t.now, self.new.left))
@@ -207,6 +211,7 @@ impl<'a> Tokens<'a> {
     }
 
     /// Checks that no token is left, and else returns `TrailingTokens`.
+    #[tactic(auto, using(std::proofs::lemmas::Bool::Decides::nat_tests, crate::proofs::TokenLemmas::tokens_empty, crate::proofs::TokenLemmas::some_left))]
     pub fn end(&self) -> Result<(), ReadFault>
         ensures { result ≡ check_end self.now.left }
     {

@@ -1,22 +1,7 @@
 use Rattle.std.proofs.Common.{◌≡◌, ◌+◌, length, take, true, false, refl, sym, ◌∙◌, arith}
-use Rattle.gc_netlist.specs.Text.{value_of}
-use Rattle.gc_tokens.proofs.TokenLemmas.{tokens-nil, run_more, empty_is_nil, some_bytes, some_run}
+use Rattle.gc_tokens.proofs.TokenLemmas.{run_more, some_bytes, some_run}
 use Rattle.gc_tokens.proofs.NumberLemmas.{value_more, digits_more, digits_no_blank, bad_digit, bad_value, number_read, number_refused}
 use Rattle.gc_tokens.proofs.number.leading_number.Goals as goal
-
-pub loop-i-init : goal.loop-i-init
-unfolding value_of
-loop-i-init c = record { value = refl; small = omega arith; digits = refl }
-
-pub loop-i-preserved : goal.loop-i-preserved
-loop-i-preserved c =
-    let digit = sym c.is_ascii_digit.ensures.value ∙ c.if-not-is_ascii_digit.false in
-    let more = value_more c.args.text.now c.loop-i.i c.loop-i-test.true in
-    record {
-      value = omega arith;
-      small = omega arith;
-      digits = digits_more _ _ true c.loop-i-test.true c.loop-i.invariant.digits digit;
-    }
 
 pub returns-then-is_blank : goal.returns-then-is_blank
 returns-then-is_blank c =
@@ -46,10 +31,6 @@ returns-then-value-from c =
     number_refused c.args.text.now (c.loop-i.i + 1) (omega arith) (omega arith)
     (digits_no_blank (take (c.loop-i.i + 1) c.args.text.now) digits)
     (λ rest. bad_value (take (c.loop-i.i + 1) c.args.text.now) rest (omega arith))
-
-pub returns-then-is_empty : goal.returns-then-is_empty
-returns-then-is_empty c =
-    rw (empty_is_nil c.args.text.now (sym c.is_empty.ensures ∙ c.if-is_empty.true), tokens-nil) refl
 
 pub returns : goal.returns
 returns c =

@@ -1,13 +1,8 @@
 use Rattle.std.proofs.Common.{◌≡◌, ℕ, ◌+◌, ◌*◌, ◌^◌, ◌<◌, ◌≤◌, length, get_or, true, refl, sym, ◌∙◌, arith}
 use Rattle.std.proofs.Math.Nat.{pow-le-pow_right}
-use Rattle.std.proofs.lemmas.Bool.Decides.{nat_tests}
 use Rattle.std.proofs.lemmas.Grind.{common_steps}
-use Rattle.gc_netlist.specs.Text.{is_digit, value_of}
-use Rattle.gc_tokens.proofs.NumberLemmas.{value_more, digits_more, number_read}
+use Rattle.gc_tokens.proofs.NumberLemmas.{digit_most, value_more, digits_more, number_read}
 use Rattle.gc_tokens.proofs.number.short_number.Goals as goal
-
-digit_most : (b : ℕ) → is_digit b ≡ true → b ≤ 57
-digit_most b h = grind (arith, nat_tests)
 
 -- at the most eight digits
 short_value : (value i : ℕ) → value < 10 ^ i → i < 9 → value < 10 ^ 8
@@ -21,11 +16,6 @@ short_value value i small few =
 short_more : (value i digit : ℕ) → value < 10 ^ i → digit ≤ 9 → value * 10 + digit < 10 ^ (i + 1)
 short_more value i digit small fits = grind (arith, common_steps)
 
-pub loop-i-init : goal.loop-i-init
-unfolding value_of
-loop-i-init c =
-    record { value = refl; small = omega arith; fits = λ few. omega arith; digits = refl }
-
 pub returns-then-is_blank : goal.returns-then-is_blank
 returns-then-is_blank c =
     let blank = sym c.is_blank.ensures ∙ c.if-is_blank.true in (
@@ -34,12 +24,6 @@ returns-then-is_blank c =
           c.loop-i.invariant.digits c.loop-i.invariant.value (omega arith) (λ _. blank),
       blank,
     )
-
-pub overflow_add-value : goal.overflow_add-value
-overflow_add-value c =
-    let digit = sym c.is_ascii_digit.ensures.value ∙ c.if-not-is_ascii_digit.false in
-    let most = digit_most (get_or c.args.text.now c.loop-i.i 0) digit in
-    omega arith
 
 pub loop-i-preserved : goal.loop-i-preserved
 loop-i-preserved c =
