@@ -1,14 +1,9 @@
 -- Going back in a text.
-use Rattle.std.proofs.Common.{◌≡◌, ℕ, zero, suc, ◌+◌, ◌-◌, ◌<◌, ◌≤◌, ◌==◌, ◌++◌, List, [], ◌∷◌, length, length-append, take, drop, fold, get_or, slice_index, Bool, true, false, inl, inr, refl, ap, arith, All, append_assoc, append-nil, take-append-drop, if◌then◌else◌}
-use Rattle.std.proofs.lemmas.Grind.{common_steps}
-use Rattle.std.proofs.lemmas.Bool.{both_ways, cases_Bool, cases_lt}
+use Rattle.gc_tokens.proofs.Names.{◌≡◌, ℕ, zero, suc, ◌+◌, ◌-◌, ◌<◌, ◌≤◌, ◌==◌, ◌++◌, List, [], ◌∷◌, length, length-append, take, drop, fold, get_or, slice_index, Bool, true, false, inl, inr, refl, ap, arith, All, append_assoc, append-nil, take-append-drop, if◌then◌else◌, common_steps, both_ways, cases_Bool, cases_lt, take_more, get_or-take, length-drop, length-take-le, slice_split, is_blank, tokens}
 use Rattle.std.proofs.Math.Seq.{take-length}
-use Rattle.std.proofs.lemmas.List.{take_more, get_or-take, length-drop, length-take-le}
 use Rattle.std.proofs.lemmas.List.Sums.{fold-append}
-use Rattle.std.specs.List.{slice_split}
 use Rattle.std.proofs.lemmas.List.Splits.{slice_split-cons_yes, slice_split-cons_no, length-slice_split}
 use Rattle.std.proofs.lemmas.List.Elements.{filter-append}
-use Rattle.gc_netlist.specs.Text.{is_blank, tokens}
 use Rattle.gc_netlist.specs.Place.{Behind, IsSpot, column_after}
 use Rattle.gc_tokens.specs.Cursor.{IsBreak, IsCut}
 use Rattle.gc_tokens.proofs.TokenLemmas.{NoBlank, tokens-blank, tokens-nil, tokens_join}

@@ -1,7 +1,5 @@
 -- Cuts of a text between two tokens.
-use Rattle.std.proofs.Common.{◌≡◌, ℕ, ◌+◌, ◌-◌, ◌<◌, ◌≤◌, ◌++◌, inl, inr, List, length, take, drop, slice_index, true, arith, append_assoc, take-append-drop}
-use Rattle.std.proofs.lemmas.Grind.{common_steps}
-use Rattle.gc_netlist.specs.Text.{is_blank}
+use Rattle.gc_tokens.proofs.Names.{◌≡◌, ℕ, ◌+◌, ◌-◌, ◌<◌, ◌≤◌, ◌++◌, inl, inr, List, length, take, drop, slice_index, true, arith, append_assoc, take-append-drop, common_steps, is_blank}
 use Rattle.gc_tokens.specs.Cursor.{IsCut, KeepsCuts}
 
 -- A cut further on, where a blank comes next or nothing,

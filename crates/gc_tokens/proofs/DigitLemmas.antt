@@ -1,16 +1,11 @@
 -- Bits that tell where digits are, and digits as the bytes of a word.
-use Rattle.std.proofs.Common.{◌≡◌, ℕ, zero, suc, ◌+◌, ◌-◌, ◌*◌, ◌/◌, ◌%◌, ◌^◌, ◌<◌, ◌≤◌, List, length, take, slice_index, Bool, true, false, inl, inr, map, get_or, ltb, refl, bit_and, mod-lt, w64, arith}
+use Rattle.gc_tokens.proofs.Names.{◌≡◌, ℕ, zero, suc, ◌+◌, ◌-◌, ◌*◌, ◌/◌, ◌%◌, ◌^◌, ◌<◌, ◌≤◌, List, length, take, slice_index, Bool, true, false, inl, inr, map, get_or, ltb, refl, bit_and, mod-lt, w64, arith, list_all, cases_lt, cases_Bool, ltb-true, nat_tests, get_or_past, get_or-map, length-map, is_digit, value_of}
 use Rattle.std.specs.Int.{bit_at, bit_not, trailing_zeros}
 use Rattle.std.specs.Int.Count.{trailing_of_zero}
-use Rattle.std.specs.List.{list_all}
 use Rattle.std.proofs.lemmas.Nat.{and_block, and_mask, shr-shr, shr_high, shr_split, mod-pow-add, pow_pos}
 use Rattle.std.proofs.lemmas.Nat.Bits.{bit_at-trailing_zeros, bit_at_not, bit_at_and}
-use Rattle.std.proofs.lemmas.Bool.{cases_lt, cases_Bool, ltb-true}
-use Rattle.std.proofs.lemmas.Bool.Decides.{nat_tests}
-use Rattle.std.proofs.lemmas.List.{get_or_past, get_or-map, length-map}
 use Rattle.std.proofs.lemmas.Simd.{bit_mask_l}
 use lib.Lanes.{mask_l}
-use Rattle.gc_netlist.specs.Text.{is_digit, value_of}
 use Rattle.gc_tokens.proofs.NumberLemmas.{value_more, digits_more}
 
 -- A bit of the mask of the bytes that pass a test.
@@ -19,10 +14,7 @@ pub bit_of : (p : ℕ → Bool) (v : List ℕ) (i : ℕ) → mask_l (map p v) / 
 bit_of p v i set = elim (cases_lt i (length v)) [
   | inl within ↦
       let told = rw (bit_mask_l (map p v) i, get_or-map p v i 0 false within) at set in
-      elim (cases_Bool (p (get_or v i 0))) [
-        | inl passes ↦ (within, passes)
-        | inr fails ↦ let none = rw fails at told in absurd (omega (arith, none))
-      ]
+      (within, grind arith)
   | inr past ↦
       let outside = get_or_past (map p v) i false (omega (arith, length-map v p)) in
       let told = rw (bit_mask_l (map p v) i, outside) at set in

@@ -1,3 +1,4 @@
+pub mod Names
 pub mod TokenLemmas
 pub mod NumberLemmas
 pub mod DigitLemmas

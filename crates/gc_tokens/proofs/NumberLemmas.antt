@@ -1,14 +1,8 @@
 -- Tokens as numbers.
-use Rattle.std.proofs.Common.{◌≡◌, ℕ, ◌+◌, ◌-◌, ◌*◌, ◌^◌, ◌<◌, ◌≤◌, ◌++◌, List, [], ◌∷◌, length, take, drop, get_or, slice_index, fold, Bool, true, false, Some, None, Ok, Err, refl, ◌∙◌, arith, take-append-drop}
-use Rattle.std.specs.List.{list_all}
-use Rattle.std.proofs.lemmas.Grind.{common_steps}
-use Rattle.std.proofs.lemmas.List.{take_more}
+use Rattle.gc_tokens.proofs.Names.{◌≡◌, ℕ, ◌+◌, ◌-◌, ◌*◌, ◌^◌, ◌<◌, ◌≤◌, ◌++◌, List, [], ◌∷◌, length, take, drop, get_or, slice_index, fold, Bool, true, false, Some, None, Ok, Err, refl, ◌∙◌, arith, take-append-drop, list_all, common_steps, take_more, nat_tests, tokens, is_blank, is_digit, value_of, number_of, number_at}
 use Rattle.std.proofs.lemmas.List.Sums.{fold-append}
 use Rattle.std.proofs.lemmas.List.Folds.{list_all-append, list_all_more, list_all_at}
-use Rattle.std.proofs.lemmas.Bool.Decides.{nat_tests}
 use Rattle.gc_netlist.specs.declared.fault.ReadFault.TheVariants.{BadNumber}
-use Rattle.gc_netlist.specs.Text.{tokens, is_blank, is_digit, value_of, number_of}
-use Rattle.gc_netlist.specs.Reading.{number_at}
 use Rattle.gc_tokens.proofs.TokenLemmas.{NoBlank, tokens_begin, tokens_take}
 
 pub value_none : value_of [] ≡ 0

@@ -1,15 +1,8 @@
 -- The tokens of a text, one after another.
-use Rattle.std.proofs.Common.{◌≡◌, ℕ, zero, suc, ◌+◌, ◌<◌, ◌≤◌, ◌==◌, ◌++◌, Err, List, [], ◌∷◌, length, filter, take, drop, get_or, slice_index, Bool, true, false, refl, sym, ap, ◌∙◌, arith, All}
-use Rattle.std.proofs.lemmas.Bool.Decides.{nat_tests}
-use Rattle.std.proofs.lemmas.Grind.{common_steps}
-use Rattle.std.proofs.Common.{add-one, inl, inr, append-nil, take-append-drop, drop-cons, append_assoc}
-use Rattle.std.proofs.lemmas.List.{take_more}
-use Rattle.std.proofs.lemmas.Bool.{both_ways, cases_Bool}
+use Rattle.gc_tokens.proofs.Names.{◌≡◌, ℕ, zero, suc, ◌+◌, ◌<◌, ◌≤◌, ◌==◌, ◌++◌, Err, List, [], ◌∷◌, length, filter, take, drop, get_or, slice_index, Bool, true, false, refl, sym, ap, ◌∙◌, arith, All, nat_tests, common_steps, add-one, inl, inr, append-nil, take-append-drop, drop-cons, append_assoc, take_more, both_ways, cases_Bool, is_blank, is_some_run, tokens, check_end}
 use Rattle.std.proofs.lemmas.List.Elements.{All-push, All-from_recursion}
 use Rattle.std.proofs.lemmas.List.Splits.{slice_split-cons_yes, slice_split_none, slice_split_at}
 use Rattle.gc_netlist.specs.declared.fault.ReadFault.TheVariants.{TrailingTokens}
-use Rattle.gc_netlist.specs.Text.{is_blank, is_some_run, tokens}
-use Rattle.gc_netlist.specs.Reading.{check_end}
 
 -- a blank in front
 pub tokens-blank : (b : ℕ) (text : List ℕ) → is_blank b ≡ true → tokens (b ∷ text) ≡ tokens text

@@ -1,4 +1,4 @@
-use Rattle.std.proofs.Common.{◌≡◌, ◌≤◌, ◌==◌, take, count_by}
+use Rattle.gc_tokens.proofs.Names.{◌≡◌, ◌≤◌, ◌==◌, take, count_by}
 use Rattle.gc_tokens.proofs.back.few_line_ends.Given as goal
 
 abbrev pub invariant-loop-byte : goal.invariant-loop-byte

@@ -1,5 +1,4 @@
-use Rattle.std.proofs.Common.{◌≡◌, ◌≤◌, length, take}
-use Rattle.gc_netlist.specs.Text.{tokens}
+use Rattle.gc_tokens.proofs.Names.{◌≡◌, ◌≤◌, length, take, tokens}
 use Rattle.gc_tokens.proofs.back.last_end.Given as goal
 
 abbrev pub invariant-loop-end : goal.invariant-loop-end

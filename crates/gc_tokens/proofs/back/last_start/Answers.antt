@@ -1,8 +1,4 @@
-use Rattle.std.proofs.Common.{◌≡◌, ◌-◌, ◌<◌, [], ◌∷◌, take, drop, get_or, slice_index, inl, inr, refl, arith}
-use Rattle.std.proofs.lemmas.Bool.{both_ways, cases_lt}
-use Rattle.std.proofs.lemmas.Grind.{common_steps}
-use Rattle.std.proofs.lemmas.List.{get_or-take, length-take-le}
-use Rattle.gc_netlist.specs.Text.{tokens}
+use Rattle.gc_tokens.proofs.Names.{◌≡◌, ◌-◌, ◌<◌, [], ◌∷◌, take, drop, get_or, slice_index, inl, inr, refl, arith, both_ways, cases_lt, common_steps, get_or-take, length-take-le, tokens}
 use Rattle.gc_tokens.proofs.BackLemmas.{last_run, take_take, front_of, some_before}
 use Rattle.gc_tokens.proofs.back.last_start.Goals as goal
 

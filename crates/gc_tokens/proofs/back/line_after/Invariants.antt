@@ -1,4 +1,4 @@
-use Rattle.std.proofs.Common.{◌≡◌, ◌≤◌, ◌+◌, ◌==◌, length, count_by}
+use Rattle.gc_tokens.proofs.Names.{◌≡◌, ◌≤◌, ◌+◌, ◌==◌, length, count_by}
 use Rattle.gc_tokens.proofs.back.line_after.Given as goal
 
 abbrev pub invariant-loop-rest : goal.invariant-loop-rest

@@ -1,4 +1,4 @@
-use Rattle.std.proofs.Common.{◌≡◌, ◌≤◌, ◌==◌, length, drop, false, All}
+use Rattle.gc_tokens.proofs.Names.{◌≡◌, ◌≤◌, ◌==◌, length, drop, false, All}
 use Rattle.gc_tokens.proofs.back.line_start.Given as goal
 
 abbrev pub invariant-loop-start : goal.invariant-loop-start

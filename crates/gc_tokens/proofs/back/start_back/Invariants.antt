@@ -1,5 +1,4 @@
-use Rattle.std.proofs.Common.{◌≡◌, ◌<◌, ◌-◌, length, take, slice_index, false}
-use Rattle.gc_netlist.specs.Text.{tokens, is_blank}
+use Rattle.gc_tokens.proofs.Names.{◌≡◌, ◌<◌, ◌-◌, length, take, slice_index, false, tokens, is_blank}
 use Rattle.gc_tokens.proofs.back.start_back.Given as goal
 
 abbrev pub invariant-loop-i : goal.invariant-loop-i

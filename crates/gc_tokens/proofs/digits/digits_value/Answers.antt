@@ -1,5 +1,4 @@
-use Rattle.std.proofs.Common.{◌≡◌, ◌+◌, ◌*◌, ◌/◌, ◌^◌, ◌<◌, take, arith}
-use Rattle.gc_netlist.specs.Text.{value_of}
+use Rattle.gc_tokens.proofs.Names.{◌≡◌, ◌+◌, ◌*◌, ◌/◌, ◌^◌, ◌<◌, take, arith, value_of}
 use Rattle.gc_tokens.proofs.DigitLemmas.{ones_of, joined, value_joined}
 use Rattle.gc_tokens.proofs.digits.digits_value.Goals as goal
 

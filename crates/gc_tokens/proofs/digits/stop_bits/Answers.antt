@@ -1,6 +1,5 @@
-use Rattle.std.proofs.Common.{◌≡◌, ℕ, ◌+◌, ◌-◌, ◌%◌, ◌<◌, length, take, slice_index, replicate, ltb, w8, mod-lt, pow_pos, ◌∙◌, arith}
+use Rattle.gc_tokens.proofs.Names.{◌≡◌, ℕ, ◌+◌, ◌-◌, ◌%◌, ◌<◌, length, take, slice_index, replicate, ltb, w8, mod-lt, pow_pos, ◌∙◌, arith, length-take-le, get_or-take}
 use Rattle.std.proofs.lemmas.Simd.{bitmask_splat, length-zip2, get_or-zip2, get_or-replicate}
-use Rattle.std.proofs.lemmas.List.{length-take-le, get_or-take}
 use lib.Lanes.{zip2}
 use Rattle.gc_tokens.proofs.DigitLemmas.{bit_inverted, bit_of, wrapped_digit}
 use Rattle.gc_tokens.proofs.digits.stop_bits.Goals as goal

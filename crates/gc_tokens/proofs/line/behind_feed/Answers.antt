@@ -1,6 +1,4 @@
-use Rattle.std.proofs.Common.{sym, ap, arith}
-use Rattle.std.proofs.lemmas.List.{take_rest}
-use Rattle.gc_netlist.specs.Text.{is_blank}
+use Rattle.gc_tokens.proofs.Names.{sym, ap, arith, take_rest, is_blank}
 use Rattle.gc_tokens.proofs.TokenLemmas.{past_blank}
 use Rattle.gc_tokens.proofs.CutLemmas.{keeps_behind}
 use Rattle.gc_tokens.proofs.line.behind_feed.Goals as goal

@@ -1,7 +1,4 @@
-use Rattle.std.proofs.Common.{◌≡◌, ℕ, ◌-◌, List, length, Ok, take, drop, slice_index, true, take-append-drop, codes, refl, sym, ap, ◌∙◌, arith}
-use Rattle.std.proofs.lemmas.List.{get_or-take, take_rest}
-use Rattle.gc_netlist.specs.Text.{is_blank, tokens, value_of}
-use Rattle.gc_netlist.specs.Reading.{number_at, gate_at, two_at}
+use Rattle.gc_tokens.proofs.Names.{◌≡◌, ℕ, ◌-◌, List, length, Ok, take, drop, slice_index, true, take-append-drop, codes, refl, sym, ap, ◌∙◌, arith, get_or-take, take_rest, is_blank, tokens, value_of, number_at, gate_at, two_at}
 use Rattle.gc_tokens.proofs.CutLemmas.{keeps_behind}
 use Rattle.gc_tokens.proofs.line.common_gate.Goals as goal
 

@@ -1,8 +1,6 @@
-use Rattle.std.proofs.Common.{◌≡◌, ℕ, ◌+◌, ◌-◌, ◌%◌, ◌<◌, ◌≤◌, List, length, drop, slice_index, true, refl, ap, ◌∙◌, w64, arith}
+use Rattle.gc_tokens.proofs.Names.{◌≡◌, ℕ, ◌+◌, ◌-◌, ◌%◌, ◌<◌, ◌≤◌, List, length, drop, slice_index, true, refl, ap, ◌∙◌, w64, arith, take_rest, length-drop, get_or-drop, drop-drop, is_blank}
 use Rattle.std.specs.Int.{trailing_zeros}
-use Rattle.std.proofs.lemmas.List.{take_rest, length-drop, get_or-drop, drop-drop}
 use Rattle.std.proofs.lemmas.Nat.{trailing_le}
-use Rattle.gc_netlist.specs.Text.{is_blank}
 use Rattle.gc_tokens.proofs.TokenLemmas.{past_blank}
 use Rattle.gc_tokens.proofs.CutLemmas.{keeps_behind}
 use Rattle.gc_tokens.proofs.NumberLemmas.{number_read}

@@ -1,8 +1,4 @@
-use Rattle.std.proofs.Common.{◌≡◌, ℕ, ◌≤◌, List, [], ◌∷◌, length, drop, slice_index, refl, ap, ◌∙◌, arith, codes}
-use Rattle.std.proofs.lemmas.Bool.{eq-eqb, ne_eqb}
-use Rattle.std.proofs.lemmas.List.{take_rest}
-use Rattle.gc_netlist.specs.Text.{is_blank, tokens}
-use Rattle.gc_netlist.specs.Reading.{token_at, operation_of_two}
+use Rattle.gc_tokens.proofs.Names.{◌≡◌, ℕ, ◌≤◌, List, [], ◌∷◌, length, drop, slice_index, refl, ap, ◌∙◌, arith, codes, eq-eqb, ne_eqb, take_rest, is_blank, tokens, token_at, operation_of_two}
 use Rattle.gc_tokens.proofs.CutLemmas.{keeps_behind}
 use Rattle.gc_tokens.proofs.line.operation_and_feed.Goals.{then-is_and, else-is_and}
 use Rattle.gc_tokens.proofs.line.operation_and_feed.Goals as goal
@@ -19,21 +15,15 @@ returns c =
     let text = c.args.text.now in
     let long = c.in-len4-up.len_at_least in
     let name = c.same_four.ensures c.if-not-same_four.false ∙ c.name_and_feed.ensures in
+    let feed : slice_index text 3 ≡ 10 = grind arith in
+    let keeps = keeps_behind text 3 (omega arith) (rw feed refl) in
     rw (take_rest text 4) (elim c.if-is_and.branch [
       | then-is_and w ↦
           let first = eq-eqb (slice_index text 0) 65 w.if-is_and.true in
-          let begins = line_begins text 65 78 68 long (rw first at name) in (
-            codes "AND",
-            ap (λ l. token_at (tokens l)) begins,
-            rw w.operation-is refl,
-            keeps_behind text 3 (omega arith) (ap (λ l. is_blank (slice_index l 3)) begins),
-          )
+          let begins = line_begins text 65 78 68 long (rw first at name) in
+          (codes "AND", ap (λ l. token_at (tokens l)) begins, rw w.operation-is refl, keeps)
       | else-is_and w ↦
           let other = ne_eqb (slice_index text 0) 65 w.if-is_and.false in
-          let begins = line_begins text 88 79 82 long (rw other at name) in (
-            codes "XOR",
-            ap (λ l. token_at (tokens l)) begins,
-            rw w.operation-is refl,
-            keeps_behind text 3 (omega arith) (ap (λ l. is_blank (slice_index l 3)) begins),
-          )
+          let begins = line_begins text 88 79 82 long (rw other at name) in
+          (codes "XOR", ap (λ l. token_at (tokens l)) begins, rw w.operation-is refl, keeps)
     ])

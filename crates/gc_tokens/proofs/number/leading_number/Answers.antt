@@ -1,4 +1,4 @@
-use Rattle.std.proofs.Common.{◌≡◌, ◌+◌, length, take, true, false, refl, sym, ◌∙◌, arith}
+use Rattle.gc_tokens.proofs.Names.{◌≡◌, ◌+◌, length, take, true, false, refl, sym, ◌∙◌, arith}
 use Rattle.gc_tokens.proofs.TokenLemmas.{run_more, some_bytes, some_run}
 use Rattle.gc_tokens.proofs.NumberLemmas.{value_more, digits_more, digits_no_blank, bad_digit, bad_value, number_read, number_refused}
 use Rattle.gc_tokens.proofs.number.leading_number.Goals as goal

@@ -1,6 +1,4 @@
-use Rattle.std.proofs.Common.{◌≡◌, ◌^◌, ◌<◌, take, true}
-use Rattle.std.specs.List.{list_all}
-use Rattle.gc_netlist.specs.Text.{is_digit, value_of}
+use Rattle.gc_tokens.proofs.Names.{◌≡◌, ◌^◌, ◌<◌, take, true, list_all, is_digit, value_of}
 use Rattle.gc_tokens.proofs.number.leading_number.Given as goal
 
 abbrev pub invariant-loop-i : goal.invariant-loop-i

@@ -1,6 +1,5 @@
-use Rattle.std.proofs.Common.{◌≡◌, ℕ, ◌+◌, ◌*◌, ◌^◌, ◌<◌, ◌≤◌, length, get_or, true, refl, sym, ◌∙◌, arith}
+use Rattle.gc_tokens.proofs.Names.{◌≡◌, ℕ, ◌+◌, ◌*◌, ◌^◌, ◌<◌, ◌≤◌, length, get_or, true, refl, sym, ◌∙◌, arith, common_steps}
 use Rattle.std.proofs.Math.Nat.{pow-le-pow_right}
-use Rattle.std.proofs.lemmas.Grind.{common_steps}
 use Rattle.gc_tokens.proofs.NumberLemmas.{digit_most, value_more, digits_more, number_read}
 use Rattle.gc_tokens.proofs.number.short_number.Goals as goal
 

@@ -1,5 +1,4 @@
-use Rattle.std.proofs.Common.{◌≡◌, take, All, false}
-use Rattle.gc_netlist.specs.Text.{is_blank}
+use Rattle.gc_tokens.proofs.Names.{◌≡◌, take, All, false, is_blank}
 use Rattle.gc_tokens.proofs.tokens.run_len.Given as goal
 
 abbrev pub invariant-loop-i : goal.invariant-loop-i

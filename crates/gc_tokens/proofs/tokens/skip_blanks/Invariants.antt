@@ -1,5 +1,4 @@
-use Rattle.std.proofs.Common.{◌≡◌, drop}
-use Rattle.gc_netlist.specs.Text.{tokens}
+use Rattle.gc_tokens.proofs.Names.{◌≡◌, drop, tokens}
 use Rattle.gc_tokens.proofs.tokens.skip_blanks.Given as goal
 
 abbrev pub invariant-loop-i : goal.invariant-loop-i

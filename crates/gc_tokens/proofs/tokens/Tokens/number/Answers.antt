@@ -1,6 +1,4 @@
-use Rattle.std.proofs.Common.{◌≡◌, ◌<◌, ◌≤◌, length, slice_index, true, arith}
-use Rattle.std.proofs.lemmas.List.{take_rest}
-use Rattle.gc_netlist.specs.Text.{is_blank}
+use Rattle.gc_tokens.proofs.Names.{◌≡◌, ◌<◌, ◌≤◌, length, slice_index, true, arith, take_rest, is_blank}
 use Rattle.gc_tokens.proofs.CutLemmas.{cut_before}
 use Rattle.gc_tokens.proofs.tokens.Tokens.number.Goals.{in-Some, in-None+in_ok-value-in-None}
 use Rattle.gc_tokens.proofs.tokens.Tokens.number.Goals as goal
