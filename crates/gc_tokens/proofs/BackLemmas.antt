@@ -1,5 +1,5 @@
 -- Going back in a text.
-use Rattle.gc_tokens.proofs.Names.{◌≡◌, ℕ, zero, suc, ◌+◌, ◌-◌, ◌<◌, ◌≤◌, ◌==◌, ◌++◌, List, [], ◌∷◌, length, length-append, take, drop, fold, get_or, slice_index, Bool, true, false, inl, inr, refl, ap, arith, All, append_assoc, append-nil, take-append-drop, if◌then◌else◌, common_steps, both_ways, cases_Bool, cases_lt, take_more, get_or-take, length-drop, length-take-le, slice_split, is_blank, tokens}
+use Rattle.gc_tokens.proofs.Names.{◌≡◌, ℕ, zero, suc, ◌+◌, ◌-◌, ◌<◌, ◌≤◌, ◌==◌, ◌++◌, List, [], ◌∷◌, length, length-append, take, drop, fold, slice_index, Bool, true, false, inl, inr, refl, ap, arith, All, append_assoc, append-nil, take-append-drop, if◌then◌else◌, common_steps, cases_Bool, take_more, get_or-take, length-drop, slice_split, is_blank, tokens}
 use Rattle.std.proofs.Math.Seq.{take-length}
 use Rattle.std.proofs.lemmas.List.Sums.{fold-append}
 use Rattle.std.proofs.lemmas.List.Splits.{slice_split-cons_yes, slice_split-cons_no, length-slice_split}

@@ -1,5 +1,5 @@
 -- Bits that tell where digits are, and digits as the bytes of a word.
-use Rattle.gc_tokens.proofs.Names.{◌≡◌, ℕ, zero, suc, ◌+◌, ◌-◌, ◌*◌, ◌/◌, ◌%◌, ◌^◌, ◌<◌, ◌≤◌, List, length, take, slice_index, Bool, true, false, inl, inr, map, get_or, ltb, refl, bit_and, mod-lt, w64, arith, list_all, cases_lt, cases_Bool, ltb-true, nat_tests, get_or_past, get_or-map, length-map, is_digit, value_of}
+use Rattle.gc_tokens.proofs.Names.{◌≡◌, ℕ, zero, suc, ◌+◌, ◌-◌, ◌*◌, ◌/◌, ◌%◌, ◌^◌, ◌<◌, ◌≤◌, List, length, take, slice_index, Bool, true, false, inl, inr, map, get_or, ltb, refl, bit_and, mod-lt, w64, arith, list_all, cases_lt, ltb-true, nat_tests, get_or_past, get_or-map, length-map, is_digit, value_of}
 use Rattle.std.specs.Int.{bit_at, bit_not, trailing_zeros}
 use Rattle.std.specs.Int.Count.{trailing_of_zero}
 use Rattle.std.proofs.lemmas.Nat.{and_block, and_mask, shr-shr, shr_high, shr_split, mod-pow-add, pow_pos}

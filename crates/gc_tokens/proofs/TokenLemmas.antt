@@ -1,5 +1,5 @@
 -- The tokens of a text, one after another.
-use Rattle.gc_tokens.proofs.Names.{◌≡◌, ℕ, zero, suc, ◌+◌, ◌<◌, ◌≤◌, ◌==◌, ◌++◌, Err, List, [], ◌∷◌, length, filter, take, drop, get_or, slice_index, Bool, true, false, refl, sym, ap, ◌∙◌, arith, All, nat_tests, common_steps, add-one, inl, inr, append-nil, take-append-drop, drop-cons, append_assoc, take_more, both_ways, cases_Bool, is_blank, is_some_run, tokens, check_end}
+use Rattle.gc_tokens.proofs.Names.{◌≡◌, ℕ, zero, suc, ◌+◌, ◌<◌, ◌≤◌, ◌++◌, Err, List, [], ◌∷◌, length, filter, take, drop, get_or, slice_index, true, false, refl, sym, ap, ◌∙◌, arith, All, common_steps, add-one, inl, inr, append-nil, take-append-drop, drop-cons, append_assoc, take_more, both_ways, cases_Bool, is_blank, is_some_run, tokens, check_end}
 use Rattle.std.proofs.lemmas.List.Elements.{All-push, All-from_recursion}
 use Rattle.std.proofs.lemmas.List.Splits.{slice_split-cons_yes, slice_split_none, slice_split_at}
 use Rattle.gc_netlist.specs.declared.fault.ReadFault.TheVariants.{TrailingTokens}
@@ -89,9 +89,6 @@ tokens_begin front (y ∷ ys) some none = elim (cases_Bool (is_blank y)) [
       (All-push (λ x. is_blank x ≡ false) front y none other) in
       record { more = y ∷ b.more; later = b.later; is = simp append_assoc at b.is }
 ]
-
-pub some_bytes : (text : List ℕ) (b : Bool) → b ≡ (length text == 0) → b ≡ false → 0 < length text
-some_bytes text b h empty = grind (arith, nat_tests)
 
 -- Bytes up to a blank are some where the first is no blank.
 pub some_run : (text : List ℕ) (n : ℕ) → 0 < length text →

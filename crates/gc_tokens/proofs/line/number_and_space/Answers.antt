@@ -1,4 +1,4 @@
-use Rattle.gc_tokens.proofs.Names.{◌≡◌, ℕ, ◌+◌, ◌-◌, ◌%◌, ◌<◌, ◌≤◌, List, length, drop, slice_index, true, refl, ap, ◌∙◌, w64, arith, take_rest, length-drop, get_or-drop, drop-drop, is_blank}
+use Rattle.gc_tokens.proofs.Names.{◌≡◌, ℕ, ◌+◌, ◌-◌, ◌%◌, ◌<◌, ◌≤◌, List, length, drop, slice_index, true, ap, ◌∙◌, w64, arith, take_rest, length-drop, get_or-drop, drop-drop, is_blank}
 use Rattle.std.specs.Int.{trailing_zeros}
 use Rattle.std.proofs.lemmas.Nat.{trailing_le}
 use Rattle.gc_tokens.proofs.TokenLemmas.{past_blank}

@@ -1,4 +1,4 @@
-use Rattle.gc_tokens.proofs.Names.{◌≡◌, ℕ, ◌≤◌, List, [], ◌∷◌, length, drop, slice_index, refl, ap, ◌∙◌, arith, codes, eq-eqb, ne_eqb, take_rest, is_blank, tokens, token_at, operation_of_two}
+use Rattle.gc_tokens.proofs.Names.{◌≡◌, ℕ, ◌≤◌, List, [], ◌∷◌, length, drop, slice_index, refl, ap, ◌∙◌, arith, codes, eq-eqb, ne_eqb, take_rest, tokens, token_at, operation_of_two}
 use Rattle.gc_tokens.proofs.CutLemmas.{keeps_behind}
 use Rattle.gc_tokens.proofs.line.operation_and_feed.Goals.{then-is_and, else-is_and}
 use Rattle.gc_tokens.proofs.line.operation_and_feed.Goals as goal

@@ -1,5 +1,5 @@
-use Rattle.gc_tokens.proofs.Names.{◌≡◌, ◌+◌, length, take, true, false, refl, sym, ◌∙◌, arith}
-use Rattle.gc_tokens.proofs.TokenLemmas.{run_more, some_bytes, some_run}
+use Rattle.gc_tokens.proofs.Names.{◌<◌, nat_tests, ◌≡◌, ◌+◌, length, take, true, false, sym, ◌∙◌, arith}
+use Rattle.gc_tokens.proofs.TokenLemmas.{run_more, some_run}
 use Rattle.gc_tokens.proofs.NumberLemmas.{value_more, digits_more, digits_no_blank, bad_digit, bad_value, number_read, number_refused}
 use Rattle.gc_tokens.proofs.number.leading_number.Goals as goal
 
@@ -35,7 +35,7 @@ returns-then-value-from c =
 pub returns : goal.returns
 returns c =
     let whole : length c.args.text.now ≡ c.loop-i.i = omega arith in
-    let some = some_bytes _ _ c.is_empty.ensures c.if-is_empty.false in
+    let some : 0 < length c.args.text.now = grind (arith, nat_tests) in
     rw whole (
       omega arith,
       number_read c.args.text.now c.loop-i.i c.loop-i.value (omega arith) (omega arith)

@@ -1,4 +1,4 @@
-use Rattle.gc_tokens.proofs.Names.{◌≡◌, ℕ, ◌+◌, ◌*◌, ◌^◌, ◌<◌, ◌≤◌, length, get_or, true, refl, sym, ◌∙◌, arith, common_steps}
+use Rattle.gc_tokens.proofs.Names.{ℕ, ◌+◌, ◌*◌, ◌^◌, ◌<◌, ◌≤◌, length, get_or, true, sym, ◌∙◌, arith, common_steps}
 use Rattle.std.proofs.Math.Nat.{pow-le-pow_right}
 use Rattle.gc_tokens.proofs.NumberLemmas.{digit_most, value_more, digits_more, number_read}
 use Rattle.gc_tokens.proofs.number.short_number.Goals as goal
