@@ -1,26 +1,10 @@
 -- The text that arrays stand for, as tokens.
-use Rattle.std.proofs.Common.{◌≡◌, ℕ, suc, ◌+◌, ◌<◌, ◌≤◌, ◌^◌, inl, inr, ◌++◌, List, [], ◌∷◌, Bool, false, Option, Some, None, Ok, Err, length, map, sum, slice_index_or, take, drop, get_or, nat_le, nat_lt, codes, decimal, refl, sym, ap, ◌∙◌, bytes_eq, if◌then◌else◌, arith}
-use Rattle.std.specs.List.{flat_map, range_with_len, AllByRecursion}
-use Rattle.std.proofs.lemmas.Bool.{cases_Bool}
-use Rattle.std.proofs.lemmas.Bool.Decides.{nat_tests}
-use Rattle.std.proofs.lemmas.List.{length-map, map-append, drop_more, take_more}
-use Rattle.std.proofs.lemmas.List.Folds.{flat_map-map}
-use Rattle.std.proofs.lemmas.Slice.Eq.{bytes_eq-Decides}
-use Rattle.gc_netlist.specs.declared.limits.TheConstants.{MAX_VALUES}
-use Rattle.gc_netlist.specs.declared.fault.ReadFault.{ReadFault}
-use Rattle.gc_netlist.specs.declared.fault.ReadFault.TheVariants.{TooLarge, BadNumber, UnknownOperation, BadConstant, WidthsExceedWires}
-use Rattle.gc_netlist.specs.declared.gate.Gate.{Gate}
-use Rattle.gc_netlist.specs.Circuit.{netlist_of}
+use Rattle.gc_circuit.proofs.Names.{◌≡◌, ℕ, suc, ◌+◌, ◌<◌, ◌≤◌, ◌^◌, inl, inr, ◌++◌, List, [], ◌∷◌, Bool, false, Option, Some, None, Ok, Err, length, map, sum, slice_index_or, take, drop, get_or, nat_le, nat_lt, codes, decimal, refl, sym, ap, ◌∙◌, bytes_eq, if◌then◌else◌, arith, flat_map, range_with_len, AllByRecursion, cases_Bool, nat_tests, length-map, map-append, drop_more, take_more, flat_map-map, bytes_eq-Decides, MAX_GATES, MAX_VALUES, ReadFault, TooLarge, BadNumber, UnknownOperation, BadConstant, WidthsExceedWires, Gate, netlist_of, Number, words_of_gate, words_of_widths, number_at, limited_at, widths_at, operation_of_two, constant_of, operation_of_one, two_at, one_at, gate_at, check_gate, is_set, gates_at, written, canonical_text, words_of_two, words_of_one, words_of_numbers, tokens_of, lines_of_arrays, arrays_text, text_of, GateStops, GatesStop}
 use Rattle.gc_netlist.specs.Text.{tokens, number_of}
-use Rattle.gc_netlist.specs.Spelling.{Number, words_of_gate, words_of_widths}
-use Rattle.gc_netlist.specs.Reading.{number_at, limited_at, widths_at, operation_of_two, constant_of, operation_of_one, two_at, one_at, gate_at, check_gate, is_set, gates_at}
-use Rattle.gc_netlist.specs.Canon.{written, canonical_text}
 use Rattle.gc_netlist.proofs.ReadingBack.{gate_back, widths_spelled}
 use Rattle.gc_netlist.proofs.WrittenLemmas.{IsToken, IsPlain, decimal_run, number_spelled, number_too_long, lines_tokens, words_spelled}
 use Rattle.gc_circuit.specs.declared.arrays.GateNumbers.{GateNumbers}
 use Rattle.gc_circuit.specs.declared.arrays.Arrays.{Arrays}
-use Rattle.gc_circuit.specs.Arrays.{words_of_two, words_of_one, words_of_numbers, tokens_of, lines_of_arrays, arrays_text, text_of}
-use Rattle.gc_circuit.specs.Stop.{GateStops, GatesStop}
 use Rattle.gc_circuit.proofs.CheckLemmas.{stops_found, gates_push, gates_stop}
 
 -- The words of arrays are tokens as they are written.
@@ -47,7 +31,7 @@ module _ (a : Arrays) where
   abbrev pub after_count : List (List ℕ)
   after_count = decimal a.wires ∷ after_wires
 
-  pub arrays_tokens : tokens (text_of a) ≡ decimal (length a.gates.now) ∷ after_count
+  arrays_tokens : tokens (text_of a) ≡ decimal (length a.gates.now) ∷ after_count
   unfolding arrays_text
   arrays_tokens =
       let ins = widths_tokens a.input_widths.now in
@@ -55,6 +39,10 @@ module _ (a : Arrays) where
       lines_tokens (lines_of_arrays a.wires a.input_widths.now a.output_widths.now a.gates.now)
       ((tt, (tt, tt)), ((tt, ins), ((tt, outs), (tt, gates_tokens a.gates.now))))
       ∙ simp (map-append, flat_map-map)
+
+  pub count_is : limited_at MAX_GATES (tokens (text_of a))
+      ≡ limited_at MAX_GATES (decimal (length a.gates.now) ∷ after_count)
+  count_is = ap (limited_at MAX_GATES) arrays_tokens
 
 -- The text is the canonical text of the gates that have its words.
 pub arrays_canonical : (a : Arrays) (gates : List Gate) →
@@ -116,13 +104,7 @@ module _ (g : GateNumbers) (operation : g.operation < 2 ^ 32) (first : g.first <
   other_name : (name : List ℕ) → number_of name ≡ None →
       bytes_eq (decimal g.operation) name ≡ false
   other_name name none =
-      let spelled = number_spelled g.operation operation in
-      elim (cases_Bool (bytes_eq (decimal g.operation) name)) [
-        | inl same ↦
-            let is : decimal g.operation ≡ name = grind (arith, bytes_eq-Decides) in
-            absurd (grind arith)
-        | inr other ↦ other
-      ]
+      let spelled = number_spelled g.operation operation in grind (arith, bytes_eq-Decides)
 
   -- An operation that there isn't is unknown,
   pub unknown_read : (rest : List (List ℕ)) → 5 ≤ g.operation →
@@ -131,81 +113,37 @@ module _ (g : GateNumbers) (operation : g.operation < 2 ^ 32) (first : g.first <
   unknown_read rest none =
       let words : words_of_numbers g ≡ words_of_two g (decimal g.operation) =
       grind (arith, nat_tests) in
-      rw (
-        words,
-        number_read 2 _ (omega arith),
-        number_read 1 _ (omega arith),
-        number_read g.first _ first,
-        number_read g.second _ second,
-        number_read g.set _ set,
+      let one : 1 < 2 ^ 32 = omega arith in
+      let two : 2 < 2 ^ 32 = omega arith in
+      rw words (simp (
+        number_read,
         other_name (codes "XOR") refl,
         other_name (codes "AND") refl,
         other_name (codes "INV") refl,
         other_name (codes "EQ") refl,
         other_name (codes "EQW") refl,
-      ) refl
+      ))
 
   -- and a constant above 1 is none.
   pub constant_read : (rest : List (List ℕ)) → g.operation ≡ 3 → 1 < g.first →
       gate_at (map written (words_of_numbers g) ++ rest) ≡ Err BadConstant
   unfolding gate_at one_at operation_of_one
   constant_read rest is above =
-      let words : words_of_numbers g ≡ words_of_one g (codes "EQ") = rw is refl in
+      let one : 1 < 2 ^ 32 = omega arith in
       let bad : constant_of g.first ≡ Err BadConstant = grind (arith, nat_tests) in
-      rw (
-        words,
-        number_read 1 _ (omega arith),
-        number_read 1 _ (omega arith),
-        number_read g.first _ first,
-        number_read g.set _ set,
-        bad,
-      ) refl
+      rw is (simp (number_read, bad))
 
 -- A loop has checked i gates.
-module _ (wires inputs : ℕ) (numbers : List GateNumbers) (i : ℕ) (d : GateNumbers)
-    (before : List Gate) (below : i < length numbers)
-    (so_far : gates_at wires inputs i [] (tokens_of numbers)
-    ≡ Ok (before, tokens_of (drop i numbers))) where
-  next : tokens_of (drop i numbers)
+module _ (numbers : List GateNumbers) (i : ℕ) (d : GateNumbers) (below : i < length numbers) where
+  -- The next gate's tokens come next,
+  pub gate_next : tokens_of (drop i numbers)
       ≡ map written (words_of_numbers (get_or numbers i d)) ++ tokens_of (drop (i + 1) numbers)
-  next = rw (drop_more numbers i d below) (map-append written (words_of_numbers (get_or numbers i d))
-      (flat_map words_of_numbers (drop (i + 1) numbers)))
+  gate_next = rw (drop_more numbers i d below) (map-append written
+      (words_of_numbers (get_or numbers i d)) (flat_map words_of_numbers (drop (i + 1) numbers)))
 
-  -- The next gate passes,
-  pub numbers_push : (x : Gate) → ((rest : List (List ℕ)) →
-      gate_at (map written (words_of_numbers (get_or numbers i d)) ++ rest) ≡ Ok (x, rest)) →
-      check_gate wires (is_set inputs before) x ≡ Ok tt →
-      gates_at wires inputs (i + 1) [] (tokens_of numbers)
-      ≡ Ok (before ++ x ∷ [], tokens_of (drop (i + 1) numbers))
-  numbers_push x read good =
-      gates_push wires inputs i before x (tokens_of numbers) (tokens_of (drop i numbers)) _ so_far
-      (ap gate_at next ∙ read (tokens_of (drop (i + 1) numbers))) good
-
-  -- and then the gates have the words of the numbers so far,
-  pub words_more : (x : Gate) → map words_of_gate before ≡ map words_of_numbers (take i numbers) →
+  -- and then the gates have the words of the numbers so far.
+  pub words_more : (before : List Gate) (x : Gate) →
+      map words_of_gate before ≡ map words_of_numbers (take i numbers) →
       words_of_gate x ≡ words_of_numbers (get_or numbers i d) →
       map words_of_gate (before ++ x ∷ []) ≡ map words_of_numbers (take (i + 1) numbers)
-  words_more x words same =
-      rw (
-        take_more numbers i d below,
-        map-append words_of_gate before (x ∷ []),
-        map-append words_of_numbers (take i numbers) (get_or numbers i d ∷ []),
-        words,
-        same,
-      ) refl
-
-  -- or reading stops in it.
-  pub numbers_stop : (marks : List Bool) (e : ReadFault) (back : ℕ) (gate wire : Option ℕ) →
-      marks ≡ map (is_set inputs before) (range_with_len 0 wires) → length before ≡ i →
-      gate ≡ Some i → ((rest : List (List ℕ)) → (left : List (List ℕ)) × GateStops (length marks)
-      (λ w. slice_index_or marks w false)
-      (map written (words_of_numbers (get_or numbers i d)) ++ rest) left e back wire) →
-      (left : List (List ℕ))
-      × GatesStop wires inputs (length numbers) (tokens_of numbers) left e back gate wire
-  numbers_stop marks e back gate wire is len in_gate stops =
-      let (left, here) = stops (tokens_of (drop (i + 1) numbers)) in (
-        left,
-        gates_stop wires inputs (length numbers) i before (tokens_of numbers)
-            (tokens_of (drop i numbers)) left e back wire below so_far
-            (rw next (stops_found inputs wires before marks is _ _ _ _ _ here)) gate len in_gate,
-      )
+  words_more before x words same = rw (take_more numbers i d below) (simp map-append cc)

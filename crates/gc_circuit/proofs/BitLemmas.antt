@@ -1,17 +1,7 @@
 -- Bits on the wires.
-use Rattle.std.proofs.Common.{◌≡◌, ℕ, ◌+◌, ◌-◌, ◌<◌, ◌≤◌, sum, List, length, map, set, take, get_or, slice_get, Some, inl, refl, sym, ap, ◌∙◌, arith, Bool, false, replicate, ◌++◌}
-use Rattle.std.specs.List.{range_with_len}
-use Rattle.gc_netlist.specs.declared.gate.Operation.{Operation}
-use Rattle.gc_netlist.specs.declared.gate.Gate.{Gate}
-use Rattle.gc_netlist.specs.Circuit.{Netlist, EachRead, IsLawful, input_wires}
-use Rattle.gc_netlist.specs.Solution.{IsLocal, values_after}
-use Rattle.gc_circuit.specs.Meaning.{bit_of, bit_rule, bits_of, AreWireBits}
-use Rattle.gc_netlist.proofs.SolutionLemmas.{after-unset, solution_solves}
-use Rattle.gc_netlist.proofs.Tables.{table_step, table_padded, after-zero}
-use Rattle.std.specs.List.{flat_map}
+use Rattle.gc_circuit.proofs.Names.{◌≡◌, ℕ, ◌+◌, ◌-◌, ◌<◌, ◌≤◌, sum, List, length, map, set, take, get_or, slice_get, Some, inl, refl, sym, ap, ◌∙◌, arith, Bool, false, replicate, ◌++◌, range_with_len, Operation, Gate, Netlist, EachRead, IsLawful, input_wires, IsLocal, values_after, bit_of, bit_rule, bits_of, AreWireBits, after-unset, solution_solves, table_step, table_padded, after-zero, flat_map, take_more, map_more, map_push, get_or-map, get_or_past}
 use Rattle.std.proofs.lemmas.List.Concat.{length-flat_map}
 use Rattle.std.proofs.lemmas.List.Sums.{sum-map}
-use Rattle.std.proofs.lemmas.List.{take_more, map_more, map_push, get_or-map, get_or_past}
 use Rattle.std.proofs.lemmas.Simd.{map-map}
 
 pub bit_of_local : (u v : ℕ → Bool) (op : Operation) → EachRead (λ w. u w ≡ v w) op →
@@ -51,17 +41,9 @@ bits_end c x all lawful fits is = record {
 }
 
 -- how long the values are together, where they have these widths
-pub length-joined : {X : Type 0} (f : X → List Bool) (xs : List X) (widths : List ℕ) →
+pub length_joined : {X : Type 0} (f : X → List Bool) (xs : List X) (widths : List ℕ) →
     map length (map f xs) ≡ widths → length (flat_map f xs) ≡ sum widths
-length-joined f xs widths h = rw (length-flat_map f xs, ← h, map-map, sum-map) refl
-
--- one more value of the right width
-pub widths_more : {X : Type 0} (f : X → List Bool) (xs : List X) (widths : List ℕ) (i : ℕ) (x : X) →
-    i < length xs → i < length widths → get_or xs i x ≡ x →
-    length (f x) ≡ get_or widths i 0 → map length (map f (take i xs)) ≡ take i widths →
-    map length (map f (take (i + 1) xs)) ≡ take (i + 1) widths
-widths_more f xs widths i x in_xs in_widths at same before =
-    rw (map_more f xs i x in_xs, map_push, take_more widths i 0 in_widths, at, before, same) refl
+length_joined f xs widths h = rw (length-flat_map f xs, ← h, map-map, sum-map) refl
 
 -- the width of one value
 pub width_at : {X : Type 0} (f : X → List Bool) (xs : List X) (widths : List ℕ) (i : ℕ) (x : X) →

@@ -1,14 +1,7 @@
 -- The first lines of a canonical text, as they are given to a sink.
-use Rattle.std.proofs.Common.{◌≡◌, ℕ, zero, suc, ◌+◌, ◌<◌, ◌≤◌, ◌++◌, List, [], ◌∷◌, length, map, take, drop, slice_get, append_assoc, take-append-drop, Some, refl, ap, ◌∙◌, arith}
-use Rattle.std.specs.List.{flat_map}
-use Rattle.std.proofs.lemmas.Grind.{common_steps, flat_map-append}
-use Rattle.std.proofs.lemmas.List.{length-map, drop_all, take_all, take-map, map-append, length-take-le}
+use Rattle.gc_circuit.proofs.Names.{◌≡◌, ℕ, zero, suc, ◌+◌, ◌<◌, ◌≤◌, ◌++◌, List, [], ◌∷◌, length, map, take, drop, slice_get, append_assoc, take-append-drop, Some, refl, ap, ◌∙◌, arith, flat_map, common_steps, flat_map-append, length-map, drop_all, take_all, take-map, map-append, length-take-le, Gate, Netlist, Word, Number, words_of_gate, words_of_widths, line, lines_of_circuit, canonical_text}
 use Rattle.std.proofs.lemmas.Option.{slice_get_within}
 use Rattle.std.proofs.Math.Seq.{take-append-add}
-use Rattle.gc_netlist.specs.declared.gate.Gate.{Gate}
-use Rattle.gc_netlist.specs.Circuit.{Netlist}
-use Rattle.gc_netlist.specs.Spelling.{Word, Number, words_of_gate, words_of_widths}
-use Rattle.gc_netlist.specs.Canon.{line, lines_of_circuit, canonical_text}
 use Rattle.gc_circuit.specs.FirstLines.{first_lines}
 
 -- The lines of gates

@@ -1,22 +1,8 @@
 -- Checking gates against a table of marks.
-use Rattle.std.proofs.Common.{inl, inr, ◌≡◌, ℕ, zero, suc, ◌+◌, ◌-◌, ◌<◌, ◌≤◌, ◌==◌, ◌++◌, List, [], ◌∷◌, Bool, true, false, cond, length, map, set, take, get_or, slice_set, slice_index_or, replicate, Option, Some, Result, Ok, Err, refl, sym, ap, ◌∙◌, arith}
+use Rattle.gc_circuit.proofs.Names.{inl, inr, ◌≡◌, ℕ, zero, suc, ◌+◌, ◌-◌, ◌<◌, ◌≤◌, ◌==◌, ◌++◌, List, [], ◌∷◌, Bool, true, false, cond, length, map, set, take, get_or, slice_set, slice_index_or, replicate, Option, Some, None, rules, Result, Ok, Err, refl, sym, ap, ◌∙◌, arith, range_with_len, nat_tests, length-set, get_or-set_same, get_or-set_other, common_steps, list_any-append, ReadFault, Gate, Operation, is_and, first_wire, second_wire, wire_of_one, wire_at_fault, AreMarked, GateStops, GatesStop, read-table, length-table, ◌>>=◌, gate_at, is_set, check_read, check_set, check_reads, check_gate, gates_at}
 use Rattle.std.specs.Int.{from_bool}
-use Rattle.std.specs.List.{range_with_len}
-use Rattle.std.proofs.lemmas.Bool.Decides.{nat_tests}
-use Rattle.std.proofs.lemmas.List.{length-set, get_or-set_same, get_or-set_other}
-use Rattle.std.proofs.lemmas.Grind.{common_steps}
 use Rattle.std.proofs.lemmas.List.Sums.{sum_by-append, count_by-le-length}
-use Rattle.std.proofs.lemmas.List.Folds.{list_any-append}
 use Rattle.std.proofs.lemmas.List.FromFn.{fill_by_all}
-use Rattle.gc_netlist.specs.declared.fault.ReadFault.{ReadFault}
-use Rattle.gc_netlist.specs.declared.gate.Gate.{Gate}
-use Rattle.gc_netlist.specs.declared.gate.Operation.{Operation}
-use Rattle.gc_netlist.specs.Circuit.{is_and}
-use Rattle.gc_netlist.specs.Met.{wire_at_fault}
-use Rattle.gc_circuit.specs.Gates.{AreMarked}
-use Rattle.gc_circuit.specs.Stop.{GateStops, GatesStop}
-use Rattle.gc_netlist.proofs.Tables.{read-table, length-table}
-use Rattle.gc_netlist.specs.Reading.{◌>>=◌, gate_at, is_set, check_read, check_set, check_reads, check_gate, gates_at}
 
 module _ (n : ℕ) (s t : ℕ → Bool) (same : (w : ℕ) → w < n → s w ≡ t w) where
   read_same : (w : ℕ) → check_read n s w ≡ check_read n t w
@@ -37,6 +23,11 @@ module _ (n : ℕ) (s t : ℕ → Bool) (same : (w : ℕ) → w < n → s w ≡ 
 
   wire_same : (c : ℕ) (op : Operation) → wire_at_fault n s c op ≡ wire_at_fault n t c op
   wire_same c op = grind (arith, read_same)
+
+-- The wire at fault of a gate that reads one wire
+pub reads_one : (n : ℕ) (is_set : ℕ → Bool) (set a : ℕ) (op : Operation) → first_wire op ≡ Some a
+    → second_wire op ≡ None → wire_of_one n is_set a set ≡ wire_at_fault n is_set set op
+reads_one n is_set set a op first second = search rules
 
 -- What a table of marks says of the wires, the gates before say.
 module _ (inputs n : ℕ) (before : List Gate) (marks : List Bool)
@@ -120,12 +111,6 @@ pub marked_passes : {wires inputs : ℕ} {before : List Gate} {set : List Bool} 
     check_gate wires (is_set inputs before) g ≡ Ok tt
 marked_passes {wires = wires} {inputs = inputs} {before = before} marks g are is passes =
     sym (marks_read inputs wires before marks (is ∙ are.table) g) ∙ passes
-
--- There are no more AND gates than gates.
-pub few_ands : {wires inputs : ℕ} {before : List Gate} {set : List Bool} {ands : ℕ} (n : ℕ) →
-    AreMarked wires inputs before set ands → length before < n → ands < n
-few_ands {before = before} n are few =
-    omega (arith, are.counted, count_by-le-length (λ (x : Gate). is_and x.operation) before)
 
 bind_assoc : {A B C : Type 0} (r : Result A ReadFault) (f : A → Result B ReadFault)
     (k : B → Result C ReadFault) → ((r >>= f) >>= k) ≡ (r >>= (λ x. f x >>= k))

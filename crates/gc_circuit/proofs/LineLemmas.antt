@@ -1,11 +1,7 @@
 -- Lines of the canonical text, as they are written.
-use Rattle.std.proofs.Common.{◌≡◌, ℕ, ◌<◌, ◌≤◌, ◌^◌, ◌++◌, List, [], ◌∷◌, length, map, take, drop, append_assoc, append-nil, decimal, refl, sym, ap, ◌∙◌, arith}
+use Rattle.gc_circuit.proofs.Names.{◌≡◌, ℕ, ◌<◌, ◌≤◌, ◌^◌, ◌++◌, List, [], ◌∷◌, length, map, take, drop, append_assoc, append-nil, decimal, refl, sym, ap, ◌∙◌, arith, flat_map, join_with_byte, drop_all, take_all, Number, Name, words_of_widths, written, line}
 use Rattle.std.specs.Fmt.{digits}
-use Rattle.std.specs.List.{flat_map, join_with_byte}
 use Rattle.std.proofs.lemmas.Fmt.{length-decimal-le}
-use Rattle.std.proofs.lemmas.List.{drop_all, take_all}
-use Rattle.gc_netlist.specs.Spelling.{Number, Name, words_of_widths}
-use Rattle.gc_netlist.specs.Canon.{written, line}
 
 -- A number of 32 bits has at most ten digits.
 pub short_decimal : (n : ℕ) → n < 2 ^ 32 → length (decimal n) ≤ 10
@@ -30,11 +26,7 @@ pub widths_done : (text widths : List ℕ) (i : ℕ) → length widths ≤ i →
     ((text ++ decimal (length widths)) ++ numbers_after (take i widths)) ++ 10 ∷ []
     ≡ text ++ line (words_of_widths widths)
 widths_done text widths i done =
-    let count : List ℕ = decimal (length widths) in
-    ap (λ ns. ((text ++ count) ++ numbers_after ns) ++ 10 ∷ []) (take_all i widths done)
-    ∙ ap (λ t. t ++ 10 ∷ []) (append_assoc text count (numbers_after widths))
-    ∙ append_assoc text (count ++ numbers_after widths) (10 ∷ [])
-    ∙ ap (λ t. text ++ t) (sym (line-widths widths))
+    rw (take_all i widths done, line-widths widths) (simp append_assoc)
 
 -- The line of a gate before what follows it
 pub line_of_one : (read set : ℕ) (name after : List ℕ) →

@@ -1,16 +1,8 @@
 -- Where a reader is at the first fault.
-use Rattle.std.proofs.Common.{◌≡◌, ℕ, List, map, sum, Bool, Option, None, Ok, Err, inl, inr, sym, ◌∙◌, arith}
-use Rattle.std.specs.List.{range_with_len}
-use Rattle.gc_netlist.specs.declared.limits.TheConstants.{MAX_GATES, MAX_WIRES}
-use Rattle.gc_netlist.specs.declared.fault.ReadFault.{ReadFault}
-use Rattle.gc_netlist.specs.Circuit.{Netlist}
-use Rattle.gc_netlist.specs.Reading.{limited_at, widths_at, is_set, check_outputs, check_end}
-use Rattle.gc_netlist.specs.Met.{IsMet}
+use Rattle.gc_circuit.proofs.Names.{◌≡◌, ◌-◌, ℕ, List, length, drop, sum, Bool, true, Option, None, Ok, Err, inl, inr, refl, sym, ◌∙◌, arith, list_all, MAX_GATES, MAX_WIRES, ReadFault, Netlist, limited_at, widths_at, check_end, IsMet, gate_met, wire_met, unset_met, end_met, GatesStop, IsUnset}
 use Rattle.gc_netlist.proofs.FaultLemmas.{Met}
-use Rattle.gc_netlist.proofs.CircuitFaults.{gate_met, wire_met, unset_met, end_met}
-use Rattle.gc_circuit.specs.Stop.{GatesStop, IsUnset}
 use Rattle.gc_circuit.proofs.CheckLemmas.{marks_len, marked}
-use Rattle.gc_circuit.proofs.ReadLemmas.{ReadSteps}
+use Rattle.gc_circuit.proofs.ReadLemmas.{ReadSteps, outputs_found}
 
 -- The fault of a gate that is read after a header.
 module _ (ts t1 t2 t3 t4 : List (List ℕ)) (n wires : ℕ) (ins outs : List ℕ)
@@ -31,26 +23,24 @@ module _ (ts t1 t2 t3 t4 : List (List ℕ)) (n wires : ℕ) (ins outs : List ℕ
       ]
 
 -- The fault of what comes after the gates.
-module _ (ts : List (List ℕ)) (c : Netlist) (rest : List (List ℕ))
-    (steps : ReadSteps ts c rest) where
-  pub unset_met_by : (outputs : ℕ) (table : List Bool) (e : ReadFault) (back : ℕ)
-      (gate wire : Option ℕ) → outputs ≡ sum c.output_widths →
-      table ≡ map (is_set (sum c.input_widths) c.gates) (range_with_len 0 c.wires) →
-      IsUnset table outputs e back gate wire → IsMet ts e rest back gate wire
-  unset_met_by outputs table e back gate wire outs is u =
-      let len = marks_len (sum c.input_widths) c.wires c.gates table is in
-      let mark = marked (sum c.input_widths) c.wires c.gates table is in
+module _ (ts : List (List ℕ)) (c : Netlist) (rest : List (List ℕ)) (outputs : ℕ)
+    (table : List Bool) (steps : ReadSteps ts c rest outputs table) (e : ReadFault) where
+  pub unset_met_by : (back : ℕ) (gate wire : Option ℕ) → IsUnset table outputs e back gate wire →
+      IsMet ts e rest back gate wire
+  unset_met_by back gate wire u =
+      let len = marks_len (sum c.input_widths) c.wires c.gates table steps.marks in
+      let mark = marked (sum c.input_widths) c.wires c.gates table steps.marks in
       rw (u.fault, u.at_cursor, u.in_gate, u.at_wire)
       (unset_met ts (steps.count, steps.after_count) steps.count_read (c.wires, steps.after_wires)
       steps.wires_read (c.input_widths, steps.after_inputs) steps.inputs_read
       (c.output_widths, steps.after_outputs) steps.outputs_read (c.gates, rest) steps.gates_read
-      u.first (omega arith) (omega arith) (sym (mark u.first (omega arith)) ∙ u.free)
-      (λ v high low. sym (mark v (omega arith)) ∙ u.lower v (omega arith) low))
+      u.first (omega (arith, steps.sums)) (omega arith) (sym (mark u.first (omega arith)) ∙ u.free)
+      (λ v high low. sym (mark v (omega arith)) ∙ u.lower v (omega (arith, steps.sums)) low))
 
-  pub end_met_by : (u : Unit {0}) (e : ReadFault) → check_outputs c ≡ Ok u →
+  pub end_met_by : list_all (λ b. b) (drop (length table - outputs) table) ≡ true →
       check_end rest ≡ Err e → Met ts rest None e
-  end_met_by u e set bad =
+  end_met_by set bad =
       end_met ts (steps.count, steps.after_count) steps.count_read (c.wires, steps.after_wires)
       steps.wires_read (c.input_widths, steps.after_inputs) steps.inputs_read
-      (c.output_widths, steps.after_outputs) steps.outputs_read (c.gates, rest) steps.gates_read u e
-      set bad
+      (c.output_widths, steps.after_outputs) steps.outputs_read (c.gates, rest) steps.gates_read
+      tt e (rw (outputs_found ts c rest outputs table steps, set) refl) bad

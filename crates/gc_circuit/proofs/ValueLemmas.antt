@@ -1,20 +1,13 @@
 -- Bits, digits and bytes of value texts.
-use Rattle.std.proofs.Common.{◌≡◌, ℕ, zero, suc, ◌+◌, ◌-◌, ◌*◌, ◌/◌, ◌%◌, ◌^◌, ◌<◌, ◌≤◌, ◌==◌, ◌&&◌, ◌↔◌, inl, inr, min, Bool, true, false, List, [], ◌∷◌, ◌++◌, length, map, take, slice_index, Ok, Err, refl, sym, ap, ◌∙◌, arith, add-one}
-use Rattle.std.specs.List.{range_with_len, list_all, list_any}
+use Rattle.gc_circuit.proofs.Names.{◌≡◌, ℕ, zero, suc, ◌+◌, ◌-◌, ◌*◌, ◌/◌, ◌%◌, ◌^◌, ◌<◌, ◌≤◌, ◌==◌, ◌&&◌, ◌↔◌, inl, inr, min, Bool, true, false, List, [], ◌∷◌, ◌++◌, length, map, take, slice_index, Ok, Err, refl, sym, ap, ◌∙◌, arith, add-one, range_with_len, list_all, list_any, cases_Bool, cases_lt, common_steps, nat_tests, append_assoc, get_or-map, get_or_past, length-map, list_all_more, list_any_at, ValueText, Binary, Hexadecimal, has_length, has_spare_bit, is_binary_digit, byte_at, bytes_for, low_bits, wire_bit, form_of, value_of_form, value_of_text, binary_digit, IsValue, IsFirstFault, ValueTextLaw}
 use Rattle.std.specs.Int.{bit_at, trailing_zeros, w8}
-use Rattle.std.proofs.lemmas.Bool.{cases_Bool, cases_lt}
-use Rattle.std.proofs.lemmas.Grind.{common_steps}
-use Rattle.std.proofs.lemmas.Bool.Decides.{nat_tests}
-use Rattle.std.proofs.lemmas.List.{append_assoc, get_or-map, get_or_past, length-map}
 use Rattle.std.proofs.lemmas.List.FromFn.{fill_by_all, get_or-range_with_len, length-range_with_len, map-range_with_len_more}
-use Rattle.std.proofs.lemmas.List.Folds.{list_all_more, list_any_at}
 use Rattle.std.proofs.lemmas.Nat.{pow-add, pow_pos}
 use Rattle.std.proofs.lemmas.Nat.Bits.{bit_at-zero, bit_at_above, bit_at-trailing_zeros}
 use Rattle.std.proofs.Math.Nat.{div-div-eq-div-mul, div-le_self, lt-div-mul-add}
 use Rattle.hex.specs.Hex.{is_hex_digit}
 use Rattle.gc_circuit.specs.declared.value.ValueFault.{ValueFault}
 use Rattle.gc_circuit.specs.declared.value.ValueFault.TheVariants.{Memory, WrongLength, BadDigit, SpareBits}
-use Rattle.gc_circuit.specs.Value.{ValueText, Binary, Hexadecimal, has_length, has_spare_bit, is_binary_digit, byte_at, bytes_for, low_bits, wire_bit, form_of, value_of_form, value_of_text, binary_digit, IsValue, IsFirstFault, ValueTextLaw}
 
 -- ---- a test over a range of places
 
@@ -47,23 +40,20 @@ none_in_range p a (suc m) h =
 
 -- ---- lists of bits
 
+-- one more place
+pub range_more : (f : ℕ → Bool) (i : ℕ) →
+    map f (range_with_len 0 (i + 1)) ≡ map f (range_with_len 0 i) ++ f i ∷ []
+range_more f i = map-range_with_len_more f 0 i i (omega arith)
+
 -- the first m places and then u more
 pub map_joined : (f g : ℕ → Bool) (m u : ℕ) → ((j : ℕ) → j < u → f (m + j) ≡ g j) →
     map f (range_with_len 0 (m + u)) ≡ map f (range_with_len 0 m) ++ map g (range_with_len 0 u)
 map_joined f g m zero h = grind (arith, common_steps)
 map_joined f g m (suc u) h =
     let more : m + suc u ≡ m + u + 1 = omega arith in
-    let last = rw add-one at (map-range_with_len_more g 0 u u (omega arith)) in
-    let next = map-range_with_len_more f 0 (m + u) (m + u) (omega arith) in
+    let last = rw add-one at (range_more g u) in
     let before = map_joined f g m u (λ j below. h j (omega arith)) in
-    rw (more, last, next, before, h u (omega arith)) (simp append_assoc)
-
--- one more place after those of a list before
-pub map_pushed : (f : ℕ → Bool) (i : ℕ) (before bits new : List Bool) (b : Bool) →
-    bits ≡ before ++ map f (range_with_len 0 i) → new ≡ bits ++ b ∷ [] → b ≡ f i →
-    new ≡ before ++ map f (range_with_len 0 (i + 1))
-map_pushed f i before bits new b is pushed bit =
-    rw (pushed, is, bit, map-range_with_len_more f 0 i i (omega arith)) (simp append_assoc)
+    rw (more, last, range_more f (m + u), before, h u (omega arith)) (simp append_assoc)
 
 -- ---- the first form
 
@@ -99,11 +89,7 @@ pub digits_more : (digits : List ℕ) (k : ℕ) → 2 * k + 1 < length digits �
 digits_more digits k within =
     let two : 2 * (k + 1) ≡ 2 * k + 1 + 1 = omega arith in
     let more = list_all_more is_hex_digit digits in
-    rw (two, more (2 * k + 1) 0 within, more (2 * k) 0 (omega arith))
-    (and_assoc (list_all is_hex_digit (take (2 * k) digits)) _ _)
-  where
-    and_assoc : (a b c : Bool) → ((a && b) && c) ≡ (a && (b && c))
-    and_assoc a b c = grind arith
+    rw (two, more (2 * k + 1) 0 within, more (2 * k) 0 (omega arith)) (grind arith)
 
 -- the bits of one more byte
 pub bits_of_byte_more : (digits : List ℕ) (n k used byte : ℕ) (bits new : List Bool) → 8 * k < n →

@@ -69,6 +69,7 @@ impl<T: Drop> From<AllocFailed<T>> for ArraysFault {
 }
 
 /// A number of gates, wires or values against its limit.
+#[tactic(auto, using(std::proofs::lemmas::Bool::Decides::nat_tests, crate::proofs::ArrayLemmas::limited_read))]
 fn check_limit(number: usize, limit: u32) -> Result<(), ReadFault>
     ensures within { OnOk result (number ≤ limit) }
     ensures read { (rest : List (List ℕ)) → MatchResult result
@@ -85,6 +86,7 @@ fn check_limit(number: usize, limit: u32) -> Result<(), ReadFault>
 }
 
 /// The widths of the values of one side: how many, and then their sum against the wires.
+#[tactic(auto, using(std::proofs::lemmas::Bool::Decides::nat_tests, crate::proofs::ArrayLemmas::widths_read))]
 fn copy_widths<A: Allocator>(alloc: A, widths: &[u32], wires: u32) -> Result<Widths<A>, ReadFault>
     ensures same { IfOk result (λ w. w.widths.items ≡ widths.now) }
     ensures sums { IfOk result (λ w. w.sum ≡ sum widths.now) }
@@ -119,6 +121,7 @@ fn operation_of_two(is_and: bool, first: u32, second: u32) -> Operation
 }
 
 /// The gate of these numbers.
+#[tactic(auto, using(crate::proofs::ArrayLemmas::unknown_read, crate::proofs::ArrayLemmas::constant_read))]
 #[inline(always)]
 fn gate_of(numbers: GateNumbers) -> Result<Gate, ReadFault>
     ensures words { IfOk result (λ g. words_of_gate g ≡ words_of_numbers numbers) }
@@ -147,6 +150,7 @@ fn gate_of(numbers: GateNumbers) -> Result<Gate, ReadFault>
 }
 
 /// The gate of these numbers, checked against those before it, of which there are `number`.
+#[tactic(auto, using(crate::proofs::ArrayLemmas::numbers_read))]
 #[inline(always)]
 fn next_gate(numbers: GateNumbers, is_set: &[bool], number: u32) -> Result<Gate, Stop>
     ensures words { IfOk result (λ g. words_of_gate g ≡ words_of_numbers numbers) }
@@ -168,6 +172,7 @@ fn next_gate(numbers: GateNumbers, is_set: &[bool], number: u32) -> Result<Gate,
 }
 
 /// The gates of these numbers, each checked against those before it.
+#[tactic(auto, unfolding(gc_netlist::specs::Reading::gates_at))]
 fn check_gates<A: Allocator + Copy>(
     alloc: A,
     wires: Wires,

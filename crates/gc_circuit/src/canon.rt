@@ -21,6 +21,7 @@ const _: () = prove!(GATES_AT_ONCE as usize * LONGEST <= ROOM);
 
 impl<A: Allocator> Circuit<A> {
     /// The lines of the gates from place `from` up to place `to`.
+    #[tactic(auto, using(std::proofs::lemmas::Grind::common_steps, crate::proofs::CanonLines::lines_from))]
     fn gate_lines<'a>(&self, room: &'a mut Room, from: u32, to: u32) -> &'a [u8]
         requires { (from ≤ to) × (to ≤ from + GATES_AT_ONCE) × (to ≤ length self.now.gates) }
         ensures { result.now
@@ -34,6 +35,7 @@ impl<A: Allocator> Circuit<A> {
     }
 
     /// Gives the lines before those of the gates to a sink that has taken nothing.
+    #[tactic(auto, using(crate::proofs::CanonLines::header_lines))]
     fn write_header<S: TextSink>(&self, sink: &mut S, room: &mut Room) -> Result<(), S::Fault>
         ensures { OnOk result ((whole : List ℕ) → S.holds sink.old whole []
             → S.holds sink.new whole (first_lines self.now 0)) }
@@ -45,6 +47,7 @@ impl<A: Allocator> Circuit<A> {
     }
 
     /// Gives the next lines to a sink that has taken those of `done` gates. Returns how many gates' lines it has then.
+    #[tactic(auto, using(crate::proofs::CanonLines::next_lines))]
     fn write_next<S: TextSink>(
         &self,
         sink: &mut S,
@@ -64,6 +67,7 @@ impl<A: Allocator> Circuit<A> {
     }
 
     /// Gives the canonical text of the circuit to a sink that has taken nothing.
+    #[tactic(auto, using(crate::proofs::CanonLines::all_lines))]
     pub(crate) fn write_canonical<S: TextSink>(&self, sink: &mut S) -> Result<(), S::Fault>
         ensures { OnOk result ((whole : List ℕ) → S.holds sink.old whole []
             → S.holds sink.new whole (canonical_text self.now)) }

@@ -33,6 +33,7 @@ fn write_bytes(room: &mut Room, end: usize, bytes: &[u8]) -> usize
 }
 
 /// Writes the digits of a number before the place `end`, and returns where they start.
+#[tactic(auto, using(crate::proofs::LineLemmas::short_decimal))]
 fn write_decimal(room: &mut Room, end: usize, number: u32) -> usize
     requires { (10 ≤ end) × (end ≤ ROOM) }
     ensures written { drop result room.new ≡ decimal number ++ drop end room.old }
@@ -163,6 +164,7 @@ fn spaced_digits(room: &mut Room, number: u32) -> &[u8]
 }
 
 /// Gives the line of a side's widths to the sink.
+#[tactic(auto, using(crate::proofs::LineLemmas::widths_done))]
 pub fn write_widths<S: TextSink>(sink: &mut S, widths: &[u32]) -> Result<(), S::Fault>
     requires { length widths.now ≤ MAX_VALUES }
     ensures { OnOk result ((whole text : List ℕ) → S.holds sink.old whole text

@@ -92,6 +92,7 @@ fn wire_of_two(is_set: &[bool], first: u32, second: u32, set: u32) -> WireBack
 
 /// The wire at fault of a gate that the check refuses: the first that it reads and that is at fault, or else the wire
 /// that it sets.
+#[tactic(auto, using(crate::proofs::CheckLemmas::reads_one))]
 #[cold]
 pub(crate) fn wire_at_fault(is_set: &[bool], gate: Gate) -> WireBack
     ensures { (result.wire, result.back) ≡ wire_at_fault (length is_set.now)

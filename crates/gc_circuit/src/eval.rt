@@ -67,6 +67,7 @@ fn input_bits<A: Allocator + Copy, C: Allocator, V: Allocator>(
 
 /// The bits on all wires, in order, for these input values; false on a wire that is not set. It grows once. The caller
 /// ensures that the values fit the circuit (`fits`).
+#[tactic(auto, using(std::proofs::lemmas::Grind::common_steps, crate::proofs::BitLemmas::bits_start, crate::proofs::BitLemmas::bits_more, crate::proofs::BitLemmas::bits_end, crate::proofs::BitLemmas::length_joined))]
 pub fn wire_bits<A: Allocator + Copy, C: Allocator, V: Allocator>(
     alloc: A,
     circuit: &Circuit<C>,

@@ -26,6 +26,7 @@ pub(crate) struct Gates<A: Allocator> {
 }
 
 /// The table of the wires that are set before any gate: the input wires.
+#[tactic(auto, using(crate::proofs::CheckLemmas::start_table))]
 fn inputs_set<A: Allocator>(alloc: A, wires: Wires) -> Result<Vec<bool, A>, ReadFault>
     requires { wires.inputs ≤ wires.count }
     ensures { MatchResult result
@@ -56,6 +57,7 @@ impl<A: Allocator + Copy> Gates<A> {
     }
 
     /// Adds a gate, which passes the check against those before it.
+    #[tactic(auto, using(crate::proofs::CheckLemmas::check_in_range))]
     #[inline(always)]
     pub(crate) fn push(&mut self, gate: Gate) -> Result<(), Stop>
         requires passes { check_gate (length self.old.is_set.items)

@@ -28,6 +28,7 @@ pub(crate) struct Widths<A: Allocator> {
 }
 
 /// The next numbers, a given number of them.
+#[tactic(auto, using(crate::proofs::NumbersLemmas::numbers_more, crate::proofs::NumbersLemmas::left_more, crate::proofs::NumbersLemmas::numbers_done))]
 fn read_numbers<A: Allocator>(
     alloc: A,
     tokens: &mut Tokens<'_>,
@@ -134,6 +135,7 @@ fn next_gate(tokens: &mut Tokens<'_>, is_set: &[bool], number: u32) -> Result<Ga
 }
 
 /// The next gates, a given number of them, each checked against those before it. Room for some is taken at once.
+#[tactic(auto, unfolding(gc_netlist::specs::Reading::gates_at))]
 fn read_gates<A: Allocator + Copy>(
     alloc: A,
     tokens: &mut Tokens<'_>,

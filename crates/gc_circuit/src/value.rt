@@ -120,6 +120,7 @@ pub fn show_value<A: Allocator + Copy>(alloc: A, bits: &[bool]) -> Result<Vec<u8
 
 /// The law of value texts. Reading a text gives bits exactly where it is the value with these bits, and a fault exactly
 /// where that is its first. What `show_value` writes is read back as the bits shown.
+#[tactic(auto, using(crate::proofs::ValueLemmas::value_text_law, crate::proofs::ValueLemmas::shown_is_read))]
 pub fn law_value_texts()
     ensures meaning { (text : List ℕ) (n : ℕ) → ValueTextLaw text n }
     ensures round_trip { (bits : List Bool) →
@@ -127,6 +128,7 @@ pub fn law_value_texts()
 {}
 
 /// The first form, which has a character for each wire.
+#[tactic(auto, using(std::proofs::lemmas::Grind::common_steps, std::proofs::lemmas::List::Folds::list_all_more, crate::proofs::ValueLemmas::range_more, crate::proofs::ValueLemmas::binary_ok))]
 fn read_binary<A: Allocator + Copy>(
     alloc: A,
     digits: &[u8],
@@ -155,6 +157,7 @@ fn read_binary<A: Allocator + Copy>(
 }
 
 /// The second form, from its digits.
+#[tactic(auto, using(std::proofs::lemmas::Grind::common_steps, crate::proofs::ValueLemmas::hexadecimal_bad))]
 fn read_hexadecimal<A: Allocator + Copy>(
     alloc: A,
     digits: &[u8],
@@ -192,6 +195,7 @@ fn read_hexadecimal<A: Allocator + Copy>(
 }
 
 /// Adds the lowest `count` bits of a byte, the lowest first.
+#[tactic(auto, using(std::proofs::lemmas::Grind::common_steps, crate::proofs::ValueLemmas::range_more, std::proofs::lemmas::Nat::Bits::shr_and_one))]
 fn push_bits<A: Allocator>(
     bits: &mut Vec<bool, A>,
     byte: u8,

@@ -1,49 +1,37 @@
-use Rattle.std.proofs.Common.{inr, length-append, refl, ◌∙◌, arith}
-use Rattle.std.proofs.lemmas.Result.{err_from_is_err_and}
-use Rattle.gc_netlist.specs.Reading.{gates_at}
-use Rattle.gc_circuit.proofs.CheckLemmas.{marked_passes, few_ands}
-use Rattle.gc_circuit.proofs.ArrayLemmas.{words_more, numbers_push, numbers_stop}
+use Rattle.gc_circuit.proofs.Names.{◌+◌, drop, inr, length-append, ap, ◌∙◌, arith, err_of, gate_at, tokens_of}
+use Rattle.gc_circuit.proofs.CheckLemmas.{marked_passes, stops_found, gates_push, gates_stop}
+use Rattle.gc_circuit.proofs.ArrayLemmas.{gate_next, words_more}
 use Rattle.gc_circuit.proofs.arrays.check_gates.Goals as goal
 
-pub loop-i-init : goal.loop-i-init
-unfolding gates_at
-loop-i-init g c = rw c.in_ok-body.ensures.none (record {
-  marked = rw c.in_ok-body.ensures.none at c.in_ok-body.ensures.marked;
-  read = refl;
-  words = refl;
-  len = refl;
-})
-
-pub returns-in_err-gate : goal.returns-in_err-gate
-returns-in_err-gate g c =
-    let p = err_from_is_err_and c.from_residual-in_err-gate.result
-    c.from_residual-in_err-gate.ensures.1 in
+pub returns-in_err-gate-clause-stops : goal.returns-in_err-gate-clause-stops
+returns-in_err-gate-clause-stops g c =
+    let p = err_of c.from_residual-in_err-gate.result c.from_residual-in_err-gate.ensures.1 in
     let before = c.loop-i.invariant in
     let e = c.in_err-gate.ensures in
-    rw (p.1, p.2) (record {
-      read = tt;
-      words = tt;
-      marked = tt;
-      stops = inr (numbers_stop _ _ _ _ _ _ c.loop-i-test.true before.read c.deref.result.now _ _
-          _ _ (c.deref.ensures.value ∙ before.marked.table) before.len e.in_gate e.stops);
-    })
-
-pub push-requires : goal.push-requires
-push-requires g c = record {
-  passes = rw (← c.deref.ensures.value) c.in_ok-gate.ensures.checked;
-  few = few_ands _ c.loop-i.invariant.marked (omega (arith, c.loop-i.invariant.len));
-}
+    let numbers = c.args.numbers.now in
+    let (left, here) = e.stops (tokens_of (drop (c.loop-i.i + 1) numbers)) in
+    let found = stops_found c.args.wires.inputs c.args.wires.count c.loop-i.body.gates.items
+    c.deref.result.now (c.deref.ensures.value ∙ before.marked.table) _ left _ _ _ here in
+    let at = gate_next numbers c.loop-i.i _ c.loop-i-test.true in
+    rw (p.1, p.2) (inr (
+      left,
+      gates_stop _ _ _ _ _ _ _ _ _ _ _ c.loop-i-test.true before.read
+          (rw at found) _ before.len e.in_gate,
+    ))
 
 pub loop-i-preserved : goal.loop-i-preserved
 loop-i-preserved g c =
     let before = c.loop-i.invariant in
     let next = c.in_ok-gate.ensures in
     let more = c.in_ok-push.ensures.more in
+    let numbers = c.args.numbers.now in
+    let i = c.loop-i.i in
     record {
       marked = c.in_ok-push.ensures.marked _ _ before.marked;
-      read = rw more (numbers_push _ _ _ _ _ _ c.loop-i-test.true before.read _ next.read
+      read = rw more (gates_push _ _ _ _ _ _ _ _ before.read
+          (ap gate_at (gate_next numbers i _ c.loop-i-test.true)
+          ∙ next.read (tokens_of (drop (i + 1) numbers)))
           (marked_passes _ _ before.marked c.deref.ensures.value next.checked));
-      words = rw more
-          (words_more _ _ _ _ _ _ c.loop-i-test.true before.read _ before.words next.words);
+      words = rw more (words_more _ _ _ c.loop-i-test.true _ _ before.words next.words);
       len = rw more (simp length-append (omega (arith, before.len)));
     }

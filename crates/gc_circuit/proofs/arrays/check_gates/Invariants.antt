@@ -1,8 +1,4 @@
-use Rattle.std.proofs.Common.{◌≡◌, [], length, map, take, drop, Ok}
-use Rattle.gc_netlist.specs.Spelling.{words_of_gate}
-use Rattle.gc_netlist.specs.Reading.{gates_at}
-use Rattle.gc_circuit.specs.Arrays.{words_of_numbers, tokens_of}
-use Rattle.gc_circuit.specs.Gates.{AreMarked}
+use Rattle.gc_circuit.proofs.Names.{◌≡◌, [], length, map, take, drop, Ok, words_of_gate, gates_at, words_of_numbers, tokens_of, AreMarked}
 use Rattle.gc_circuit.proofs.arrays.check_gates.Given as goal
 
 abbrev pub invariant-loop-i : goal.invariant-loop-i

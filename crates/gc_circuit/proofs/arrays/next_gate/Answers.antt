@@ -1,5 +1,4 @@
-use Rattle.std.proofs.Common.{inl, inr, refl, arith}
-use Rattle.std.proofs.lemmas.Result.{err_from_is_err_and}
+use Rattle.gc_circuit.proofs.Names.{inl, inr, refl, arith, err_of}
 use Rattle.gc_circuit.proofs.ArrayLemmas.{numbers_read}
 use Rattle.gc_circuit.proofs.arrays.next_gate.Goals as goal
 
@@ -10,14 +9,9 @@ returns-in-Err-clause-stops c =
 
 pub returns-in_err-check_next-clause-stops : goal.returns-in_err-check_next-clause-stops
 returns-in_err-check_next-clause-stops c =
-    let p = err_from_is_err_and c.from_residual.result c.from_residual.ensures.1 in
+    let p = err_of c.from_residual.result c.from_residual.ensures.1 in
     let e = c.in_err-check_next.ensures in
     rw (p.1, p.2) (λ rest.
     let read = numbers_read c.args.numbers (omega arith) (omega arith) (omega arith) (omega arith)
     c.in-Ok.gate rest c.in-Ok.ensures.words in
     (rest, inr (c.in-Ok.gate, read, e.refused, e.at_wire)))
-
-pub returns-clause-read : goal.returns-clause-read
-returns-clause-read c = λ rest.
-    numbers_read c.args.numbers (omega arith) (omega arith) (omega arith) (omega arith)
-    c.in-Ok.gate rest c.in-Ok.ensures.words

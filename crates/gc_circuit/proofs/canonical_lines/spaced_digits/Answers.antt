@@ -1,5 +1,4 @@
-use Rattle.std.proofs.Common.{decimal, arith}
-use Rattle.std.proofs.lemmas.Grind.{common_steps}
+use Rattle.gc_circuit.proofs.Names.{decimal, arith, common_steps}
 use Rattle.gc_circuit.proofs.LineLemmas.{digits_last}
 use Rattle.gc_circuit.proofs.canonical_lines.spaced_digits.Goals as goal
 

@@ -1,4 +1,4 @@
-use Rattle.std.proofs.Common.{ℕ, List, ◌++◌, length, decimal, take}
+use Rattle.gc_circuit.proofs.Names.{ℕ, List, ◌++◌, length, decimal, take}
 use Rattle.gc_circuit.proofs.LineLemmas.{numbers_after}
 use Rattle.gc_circuit.proofs.canonical_lines.write_widths.Given as goal
 

@@ -1,12 +1,10 @@
-use Rattle.std.proofs.Common.{inl, inr, refl}
-use Rattle.std.proofs.lemmas.Result.{err_from_is_err_and}
-use Rattle.gc_netlist.specs.Reading.{check_reads}
+use Rattle.gc_circuit.proofs.Names.{inl, inr, refl, err_of, check_reads}
 use Rattle.gc_circuit.proofs.checks.check_reads.Goals as goal
 
 pub returns-in_err-check_read-in-Xor : goal.returns-in_err-check_read-in-Xor
 unfolding check_reads
 returns-in_err-check_read-in-Xor c =
-    let p = err_from_is_err_and c.from_residual.result c.from_residual.ensures.1 in
+    let p = err_of c.from_residual.result c.from_residual.ensures.1 in
     elim c.in-Xor.is [
       | inl xor ↦ rw (p.1, p.2, xor, ← c.in_err-check_read-in-Xor.ensures) refl
       | inr and ↦ rw (p.1, p.2, and, ← c.in_err-check_read-in-Xor.ensures) refl

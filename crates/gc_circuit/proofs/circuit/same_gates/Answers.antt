@@ -1,7 +1,5 @@
-use Rattle.std.proofs.Common.{◌≡◌, rules}
+use Rattle.gc_circuit.proofs.Names.{◌≡◌, rules, slice_eq-Decides, Gate}
 use Rattle.std.specs.Bool.{Decides}
-use Rattle.std.proofs.lemmas.Slice.Eq.{slice_eq-Decides}
-use Rattle.gc_netlist.specs.declared.gate.Gate.{Gate}
 use Rattle.gc_netlist.specs.contracts.gate.GatePartialEq.TheImpl as gates
 use Rattle.gc_circuit.proofs.circuit.same_gates.Goals as goal
 

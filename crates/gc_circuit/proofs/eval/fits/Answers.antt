@@ -1,5 +1,5 @@
-use Rattle.std.proofs.Common.{get_or, sym, ap, arith}
-use Rattle.gc_circuit.proofs.BitLemmas.{widths_more, width_at}
+use Rattle.gc_circuit.proofs.Names.{get_or, sym, ap, arith}
+use Rattle.gc_circuit.proofs.BitLemmas.{width_at}
 use Rattle.gc_circuit.proofs.eval.fits.Goals as goal
 
 pub returns-then-len-widths : goal.returns-then-len-widths
@@ -15,10 +15,3 @@ returns-then-len-widths g c = (
         ap (λ l. get_or l c.loop-i.i 0) c.input_widths-widths.ensures,
       ))),
 )
-
-pub loop-i-preserved : goal.loop-i-preserved
-loop-i-preserved g c =
-    widths_more (λ v. v.items) c.args.values.now c.input_widths-widths.result.now c.loop-i.i
-    c.index-values-i.result c.loop-i-test.true
-    (omega arith) (sym c.index-values-i.is) (omega (arith, c.len.ensures, c.if-len-widths.false))
-    c.loop-i.invariant

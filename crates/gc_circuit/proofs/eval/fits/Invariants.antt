@@ -1,4 +1,4 @@
-use Rattle.std.proofs.Common.{◌≡◌, map, take, length}
+use Rattle.gc_circuit.proofs.Names.{◌≡◌, map, take, length}
 use Rattle.gc_circuit.proofs.eval.fits.Given as goal
 
 abbrev pub invariant-loop-i : goal.invariant-loop-i

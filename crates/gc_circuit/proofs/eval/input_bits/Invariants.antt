@@ -1,4 +1,4 @@
-use Rattle.std.proofs.Common.{◌≡◌, take, flat_map}
+use Rattle.gc_circuit.proofs.Names.{◌≡◌, take, flat_map}
 use Rattle.gc_circuit.proofs.eval.input_bits.Given as goal
 
 abbrev pub invariant-loop-value : goal.invariant-loop-value

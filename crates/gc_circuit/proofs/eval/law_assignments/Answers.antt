@@ -1,6 +1,4 @@
-use Rattle.gc_netlist.specs.Solution.{solution}
-use Rattle.gc_circuit.specs.Meaning.{bit_rule}
-use Rattle.gc_netlist.proofs.SolutionLemmas.{agree, solution_solves}
+use Rattle.gc_circuit.proofs.Names.{solution, bit_rule, agree, solution_solves}
 use Rattle.gc_circuit.proofs.BitLemmas.{bit_local}
 use Rattle.gc_circuit.proofs.eval.law_assignments.Goals as goal
 

@@ -1,5 +1,4 @@
-use Rattle.std.proofs.Common.{length, ap, ◌∙◌, arith}
-use Rattle.gc_netlist.proofs.Tables.{length-table, table_end}
+use Rattle.gc_circuit.proofs.Names.{length, ap, ◌∙◌, arith, length-table, table_end}
 use Rattle.gc_circuit.proofs.eval.plain_eval.Goals as goal
 
 pub split_at-requires : goal.split_at-requires

@@ -1,7 +1,4 @@
-use Rattle.std.proofs.Common.{◌≡◌, map, flat_map}
-use Rattle.std.specs.List.{range_with_len}
-use Rattle.gc_netlist.specs.Solution.{values_after}
-use Rattle.gc_circuit.specs.Meaning.{bits_of, bit_rule}
+use Rattle.gc_circuit.proofs.Names.{◌≡◌, map, flat_map, range_with_len, values_after, bits_of, bit_rule}
 use Rattle.gc_circuit.proofs.eval.wire_bits.Given as goal
 
 abbrev pub invariant-loop-i : goal.invariant-loop-i

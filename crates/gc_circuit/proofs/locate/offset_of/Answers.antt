@@ -1,4 +1,4 @@
-use Rattle.std.proofs.Common.{arith}
+use Rattle.gc_circuit.proofs.Names.{arith}
 use Rattle.gc_netlist.proofs.PlaceLemmas.{spot_end}
 use Rattle.gc_circuit.proofs.PlaceLemmas.{met_behind, met_token}
 use Rattle.gc_circuit.proofs.locate.offset_of.Goals as goal

@@ -1,5 +1,4 @@
-use Rattle.std.proofs.Common.{◌≡◌, ℕ, suc, ◌<◌, List, [], ◌∷◌, length, slice_index_or, Bool, true, false, refl, arith}
-use Rattle.std.specs.List.{list_all}
+use Rattle.gc_circuit.proofs.Names.{◌≡◌, ℕ, suc, ◌<◌, List, [], ◌∷◌, length, slice_index_or, Bool, true, false, refl, arith, list_all}
 use Rattle.gc_circuit.proofs.read.first_unset.Goals as goal
 
 -- Where each mark is set, all are.

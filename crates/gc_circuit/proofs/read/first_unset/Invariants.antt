@@ -1,4 +1,4 @@
-use Rattle.std.proofs.Common.{◌≡◌, ℕ, ◌<◌, slice_index_or, false, true}
+use Rattle.gc_circuit.proofs.Names.{◌≡◌, ℕ, ◌<◌, slice_index_or, false, true}
 use Rattle.gc_circuit.proofs.read.first_unset.Given as goal
 
 abbrev pub invariant-loop-i : goal.invariant-loop-i

@@ -1,22 +1,10 @@
-use Rattle.std.proofs.Common.{length-append, refl, ◌∙◌, arith}
-use Rattle.std.proofs.lemmas.Result.{err_from_is_err_and}
-use Rattle.gc_netlist.specs.Reading.{gates_at}
-use Rattle.gc_circuit.proofs.CheckLemmas.{marked_passes, few_ands, stops_found, gates_push, turn_stops, gates_stop}
+use Rattle.gc_circuit.proofs.Names.{length-append, ◌∙◌, arith, err_of}
+use Rattle.gc_circuit.proofs.CheckLemmas.{marked_passes, stops_found, gates_push, turn_stops, gates_stop}
 use Rattle.gc_circuit.proofs.read.read_gates.Goals as goal
-
-pub loop-i-init : goal.loop-i-init
-unfolding gates_at
-loop-i-init g c = rw c.in_ok-body.ensures.none (record {
-  marked = rw c.in_ok-body.ensures.none at c.in_ok-body.ensures.marked;
-  read = refl;
-  len = refl;
-  kept = refl;
-})
 
 pub returns-in_err-gate : goal.returns-in_err-gate
 returns-in_err-gate g c =
-    let p = err_from_is_err_and c.from_residual-in_err-gate.result
-    c.from_residual-in_err-gate.ensures.1 in
+    let p = err_of c.from_residual-in_err-gate.result c.from_residual-in_err-gate.ensures.1 in
     let before = c.loop-i.invariant in
     let stops = stops_found c.args.wires.inputs c.args.wires.count c.loop-i.body.gates.items
     c.deref.result.now (c.deref.ensures.value ∙ before.marked.table) _ _ _ _ _
@@ -28,12 +16,6 @@ returns-in_err-gate g c =
           before.len c.in_err-gate.ensures.in_gate;
       kept = c.in_err-gate.ensures.kept ∙ before.kept;
     })
-
-pub push-requires : goal.push-requires
-push-requires g c = record {
-  passes = rw (← c.deref.ensures.value) c.in_ok-gate.ensures.checked;
-  few = few_ands _ c.loop-i.invariant.marked (omega (arith, c.loop-i.invariant.len));
-}
 
 pub loop-i-preserved : goal.loop-i-preserved
 loop-i-preserved g c =

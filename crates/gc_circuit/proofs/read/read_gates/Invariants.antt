@@ -1,6 +1,4 @@
-use Rattle.std.proofs.Common.{◌≡◌, [], length, Ok}
-use Rattle.gc_netlist.specs.Reading.{gates_at}
-use Rattle.gc_circuit.specs.Gates.{AreMarked}
+use Rattle.gc_circuit.proofs.Names.{◌≡◌, [], length, Ok, gates_at, AreMarked}
 use Rattle.gc_circuit.proofs.read.read_gates.Given as goal
 
 abbrev pub invariant-loop-i : goal.invariant-loop-i

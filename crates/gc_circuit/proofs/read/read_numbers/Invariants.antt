@@ -1,7 +1,5 @@
-use Rattle.std.proofs.Common.{◌≡◌, ◌-◌, []}
+use Rattle.gc_circuit.proofs.Names.{◌≡◌, ◌-◌, [], numbers_at, numbers_left}
 use Rattle.std.specs.Vec.{vec_len}
-use Rattle.gc_netlist.specs.Reading.{numbers_at}
-use Rattle.gc_netlist.specs.Met.{numbers_left}
 use Rattle.gc_circuit.proofs.read.read_numbers.Given as goal
 
 abbrev pub invariant-loop-i : goal.invariant-loop-i

@@ -1,5 +1,4 @@
-use Rattle.std.proofs.Common.{◌≡◌, ◌++◌}
-use Rattle.gc_circuit.specs.Value.{low_bits}
+use Rattle.gc_circuit.proofs.Names.{◌≡◌, ◌++◌, low_bits}
 use Rattle.gc_circuit.proofs.value.push_bits.Given as goal
 
 abbrev pub invariant-loop-i : goal.invariant-loop-i

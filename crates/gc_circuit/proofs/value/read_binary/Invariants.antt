@@ -1,6 +1,4 @@
-use Rattle.std.proofs.Common.{◌≡◌, map, take}
-use Rattle.std.specs.List.{range_with_len, list_all}
-use Rattle.gc_circuit.specs.Value.{Binary, is_binary_digit, wire_bit}
+use Rattle.gc_circuit.proofs.Names.{◌≡◌, map, take, range_with_len, list_all, Binary, is_binary_digit, wire_bit}
 use Rattle.gc_circuit.proofs.value.read_binary.Given as goal
 
 abbrev pub invariant-loop-digit : goal.invariant-loop-digit

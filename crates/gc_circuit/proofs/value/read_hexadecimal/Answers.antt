@@ -1,9 +1,5 @@
-use Rattle.std.proofs.Common.{◌≡◌, ◌*◌, ◌<◌, ◌&&◌, Bool, length, ◌∙◌, ap, sym, inl, inr, arith, min}
-use Rattle.std.proofs.lemmas.Bool.{cases_Bool}
-use Rattle.std.proofs.lemmas.Bool.Decides.{nat_tests}
-use Rattle.std.proofs.lemmas.List.{take_all}
-use Rattle.gc_circuit.specs.Value.{bytes_for}
-use Rattle.gc_circuit.proofs.ValueLemmas.{bits_of_byte_more, digits_more, hexadecimal_bad, hexadecimal_ok, rest_zero_more, spare_in_byte}
+use Rattle.gc_circuit.proofs.Names.{◌≡◌, ◌*◌, ◌<◌, ◌&&◌, Bool, length, ◌∙◌, ap, sym, inl, inr, arith, min, cases_Bool, nat_tests, take_all, bytes_for}
+use Rattle.gc_circuit.proofs.ValueLemmas.{bits_of_byte_more, digits_more, hexadecimal_ok, rest_zero_more, spare_in_byte}
 use Rattle.gc_circuit.proofs.value.read_hexadecimal.Goals as goal
 
 pub loop-k-preserved : goal.loop-k-preserved
@@ -30,13 +26,6 @@ loop-k-preserved g c =
             used is (omega arith) (λ zero. grind (arith, nat_tests))).1
       ];
     }
-
-pub returns-then-not-are_digits-clause-err : goal.returns-then-not-are_digits-clause-err
-returns-then-not-are_digits-clause-err g c =
-    let digits = c.args.digits.now in
-    let long : length digits ≡ 2 * bytes_for c.args.width = omega arith in
-    let bad = rw (take_all (2 * c.loop-k.k) digits (omega arith)) at c.loop-k.invariant.digits in
-    inr (hexadecimal_bad digits c.args.width long (bad ∙ grind arith))
 
 pub returns-else-has_spare_bit-clause-ok : goal.returns-else-has_spare_bit-clause-ok
 returns-else-has_spare_bit-clause-ok g c =

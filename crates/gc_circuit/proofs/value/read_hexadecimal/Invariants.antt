@@ -1,7 +1,5 @@
-use Rattle.std.proofs.Common.{◌≡◌, ◌*◌, ◌≤◌, ◌<◌, ℕ, true, false, map, take, min}
-use Rattle.std.specs.List.{range_with_len, list_all}
+use Rattle.gc_circuit.proofs.Names.{◌≡◌, ◌*◌, ◌≤◌, ◌<◌, ℕ, true, false, map, take, min, range_with_len, list_all, Hexadecimal, has_spare_bit, wire_bit}
 use Rattle.hex.specs.Hex.{is_hex_digit}
-use Rattle.gc_circuit.specs.Value.{Hexadecimal, has_spare_bit, wire_bit}
 use Rattle.gc_circuit.proofs.value.read_hexadecimal.Given as goal
 
 abbrev pub invariant-loop-k : goal.invariant-loop-k

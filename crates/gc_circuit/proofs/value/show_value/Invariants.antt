@@ -1,5 +1,4 @@
-use Rattle.std.proofs.Common.{◌≡◌, map, take}
-use Rattle.gc_circuit.specs.Value.{binary_digit}
+use Rattle.gc_circuit.proofs.Names.{◌≡◌, map, take, binary_digit}
 use Rattle.gc_circuit.proofs.value.show_value.Given as goal
 
 abbrev pub invariant-loop-bit : goal.invariant-loop-bit

@@ -1,4 +1,4 @@
-use Rattle.std.proofs.Common.{[]}
+use Rattle.gc_circuit.proofs.Names.{[]}
 use Rattle.gc_circuit.proofs.circuit.Circuit.digest.Goals as goal
 
 pub returns : goal.returns

@@ -1,7 +1,6 @@
-use Rattle.std.proofs.Common.{inl, inr, Err, sym, ◌∙◌}
+use Rattle.gc_circuit.proofs.Names.{inl, inr, Err, sym, ◌∙◌, text_of}
 use Rattle.gc_netlist.proofs.CanonLemmas.{canonical_law}
 use Rattle.gc_netlist.proofs.ReadingLaws.{reading_law, read_exactly}
-use Rattle.gc_circuit.specs.Arrays.{text_of}
 use Rattle.gc_circuit.proofs.circuit.Circuit.from_arrays.Goals as goal
 
 pub returns-in-Ok-clause-exactly : goal.returns-in-Ok-clause-exactly
@@ -13,12 +12,6 @@ pub returns-in-Err-clause-first_fault : goal.returns-in-Err-clause-first_fault
 returns-in-Err-clause-first_fault g c = λ other. elim c.in-Err.ensures.stops [
   | inl refused ↦ absurd (other refused.0)
   | inr found ↦ found
-]
-
-pub returns-in-Err-clause-memory : goal.returns-in-Err-clause-memory
-returns-in-Err-clause-memory g c = λ is. elim c.in-Err.ensures.stops [
-  | inl refused ↦ (refused.1, refused.2)
-  | inr found ↦ absurd (elim (rw is at found.first) [ ])
 ]
 
 pub returns-in-Err-clause-exactly : goal.returns-in-Err-clause-exactly

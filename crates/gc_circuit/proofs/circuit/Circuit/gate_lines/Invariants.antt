@@ -1,4 +1,4 @@
-use Rattle.std.proofs.Common.{◌≡◌, ◌+◌, ◌-◌, ◌*◌, ◌≤◌, drop, take}
+use Rattle.gc_circuit.proofs.Names.{◌≡◌, ◌+◌, ◌-◌, ◌*◌, ◌≤◌, drop, take}
 use Rattle.gc_circuit.proofs.CanonLines.{lines_of_gates}
 use Rattle.gc_circuit.proofs.circuit.Circuit.gate_lines.Given as goal
 

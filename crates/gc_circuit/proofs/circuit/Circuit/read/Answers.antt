@@ -1,4 +1,4 @@
-use Rattle.std.proofs.Common.{Ok, Err}
+use Rattle.gc_circuit.proofs.Names.{Ok, Err}
 use Rattle.gc_netlist.proofs.ReadingLaws.{read_exactly}
 use Rattle.gc_circuit.proofs.circuit.Circuit.read.Goals as goal
 

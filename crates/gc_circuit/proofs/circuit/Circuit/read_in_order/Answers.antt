@@ -1,13 +1,7 @@
-use Rattle.std.proofs.Common.{◌≡◌, ◌-◌, true, cond, map, sum, drop, length, Ok, Err, refl, sym, ap, ◌∙◌, arith}
-use Rattle.std.specs.List.{list_all, range_with_len}
-use Rattle.std.proofs.lemmas.Result.{err_from_is_err_and}
-use Rattle.gc_netlist.specs.Circuit.{Netlist, netlist_of}
-use Rattle.gc_netlist.specs.declared.fault.ReadFault.TheVariants.{OutputUnset}
-use Rattle.gc_netlist.specs.Reading.{is_set, check_outputs, check_end, circuit_of}
+use Rattle.gc_circuit.proofs.Names.{◌≡◌, ◌-◌, true, drop, length, Ok, refl, sym, ap, ◌∙◌, arith, list_all, err_of, Netlist, netlist_of, check_end, circuit_of, count_met, wires_met, inputs_met, outputs_due_met, circuit_of-lawful, circuit_of-spelled}
 use Rattle.gc_circuit.proofs.CheckLemmas.{marks_len}
-use Rattle.gc_circuit.proofs.ReadLemmas.{ReadSteps, last_steps, outputs_found}
+use Rattle.gc_circuit.proofs.ReadLemmas.{ReadSteps, last_steps}
 use Rattle.gc_circuit.proofs.MetLemmas.{gates_met, unset_met_by, end_met_by}
-use Rattle.gc_netlist.proofs.CircuitFaults.{count_met, wires_met, inputs_met, outputs_due_met, circuit_of-lawful, circuit_of-spelled}
 use Rattle.gc_circuit.proofs.circuit.Circuit.read_in_order.Given.{Over}
 use Rattle.gc_circuit.proofs.circuit.Circuit.read_in_order.Goals.{After-deref}
 use Rattle.gc_circuit.proofs.circuit.Circuit.read_in_order.Goals as goal
@@ -20,6 +14,7 @@ read g c = netlist_of c.in_ok-wires.wires c.in_ok-inputs.inputs.widths.items
 -- and the steps of reading it.
 steps : (g : Over) (c : After-deref g) →
     ReadSteps c.args.tokens.now.left (read g c) c.read_gates.new.tokens.left
+    c.in_ok-outputs.outputs.sum c.deref.result.now
 steps g c = record {
   after_count = c.number_up_to.new.self.left;
   after_wires = c.number_up_to-2.new.self.left;
@@ -31,19 +26,11 @@ steps g c = record {
   inputs_read = c.in_ok-inputs.ensures.read;
   outputs_read = c.in_ok-outputs.ensures.read;
   gates_read = rw (← c.in_ok-inputs.ensures.sums) c.in_ok-body.ensures.read;
+  sums = c.in_ok-outputs.ensures.sums;
+  fits = c.in_ok-outputs.ensures.fits;
+  marks = rw (c.deref.ensures.value, ← c.in_ok-inputs.ensures.sums)
+      c.in_ok-body.ensures.marked.table;
 }
-
--- The table of the wires that are set
-table : (g : Over) (c : After-deref g) → let r = read g c in
-    c.deref.result.now ≡ map (is_set (sum r.input_widths) r.gates) (range_with_len 0 r.wires)
-table g c = rw (c.deref.ensures.value, ← c.in_ok-inputs.ensures.sums) c.in_ok-body.ensures.marked.table
-
--- says whether the check of the outputs passes.
-checked : (g : Over) (c : After-deref g) → check_outputs (read g c) ≡ cond (list_all (λ b. b)
-    (drop (length c.deref.result.now - c.in_ok-outputs.outputs.sum) c.deref.result.now))
-    (Ok tt) (Err OutputUnset)
-checked g c = outputs_found (read g c) c.in_ok-outputs.outputs.sum c.deref.result.now
-    c.in_ok-outputs.ensures.sums c.in_ok-outputs.ensures.fits (table g c)
 
 pub check_outputs-requires : goal.check_outputs-requires
 check_outputs-requires g c =
@@ -56,22 +43,20 @@ check_outputs-requires g c =
 
 pub returns-in_err-count-clause-met : goal.returns-in_err-count-clause-met
 returns-in_err-count-clause-met g c =
-    let p = err_from_is_err_and c.from_residual.result c.from_residual.ensures.1 in
+    let p = err_of c.from_residual.result c.from_residual.ensures.1 in
     let e = c.in_err-count.ensures in
     rw (p.1, p.2.0, e.left, p.2.1, p.2.2, p.2.3) (λ _. count_met c.args.tokens.now.left _ e.number)
 
 pub returns-in_err-wires-clause-met : goal.returns-in_err-wires-clause-met
 returns-in_err-wires-clause-met g c =
-    let p = err_from_is_err_and c.from_residual-in_err-wires.result
-    c.from_residual-in_err-wires.ensures.1 in
+    let p = err_of c.from_residual-in_err-wires.result c.from_residual-in_err-wires.ensures.1 in
     let e = c.in_err-wires.ensures in
     rw (p.1, p.2.0, e.left, p.2.1, p.2.2, p.2.3)
     (λ _. wires_met c.args.tokens.now.left _ c.in_ok-count.ensures.number _ e.number)
 
 pub returns-in_err-inputs-clause-met : goal.returns-in_err-inputs-clause-met
 returns-in_err-inputs-clause-met g c =
-    let p = err_from_is_err_and c.from_residual-in_err-inputs.result
-    c.from_residual-in_err-inputs.ensures.1 in
+    let p = err_of c.from_residual-in_err-inputs.result c.from_residual-in_err-inputs.ensures.1 in
     let e = c.in_err-inputs.ensures in
     rw (p.1, p.2.0, p.2.1, p.2.2, p.2.3) (λ other. rw (e.left other)
     (inputs_met c.args.tokens.now.left _ c.in_ok-count.ensures.number _
@@ -79,8 +64,7 @@ returns-in_err-inputs-clause-met g c =
 
 pub returns-in_err-outputs-clause-met : goal.returns-in_err-outputs-clause-met
 returns-in_err-outputs-clause-met g c =
-    let p = err_from_is_err_and c.from_residual-in_err-outputs.result
-    c.from_residual-in_err-outputs.ensures.1 in
+    let p = err_of c.from_residual-in_err-outputs.result c.from_residual-in_err-outputs.ensures.1 in
     let e = c.in_err-outputs.ensures in
     rw (p.1, p.2.0, p.2.1, p.2.2, p.2.3) (λ other. rw (e.left other)
     (outputs_due_met c.args.tokens.now.left _ c.in_ok-count.ensures.number _
@@ -88,8 +72,7 @@ returns-in_err-outputs-clause-met g c =
 
 pub returns-in_err-body-clause-met : goal.returns-in_err-body-clause-met
 returns-in_err-body-clause-met g c =
-    let p = err_from_is_err_and c.from_residual-in_err-body.result
-    c.from_residual-in_err-body.ensures.1 in
+    let p = err_of c.from_residual-in_err-body.result c.from_residual-in_err-body.ensures.1 in
     rw (p.1, p.2) (λ other. gates_met _ _ _ _ _ _ _ _ _ c.in_ok-count.ensures.number
     c.in_ok-wires.ensures.number c.in_ok-inputs.ensures.read c.in_ok-outputs.ensures.read
     _ _ _ _ _ _ c.in_ok-inputs.ensures.sums (c.in_err-body.ensures.stops other))
@@ -97,46 +80,40 @@ returns-in_err-body-clause-met g c =
 pub returns-in_err-check_outputs-clause-reading : goal.returns-in_err-check_outputs-clause-reading
 returns-in_err-check_outputs-clause-reading g c =
     let shared = (goal.at.returns-in_err-check_outputs-clause-reading g c).After-deref in
-    let p = err_from_is_err_and c.from_residual-in_err-check_outputs.result
+    let p = err_of c.from_residual-in_err-check_outputs.result
     c.from_residual-in_err-check_outputs.ensures.1 in
     let e = c.in_err-check_outputs.ensures in
-    rw (p.1, p.2, e.unset.fault)
-    (λ _. rw (last_steps _ _ _ (steps g shared), checked g shared, e.read) refl)
+    rw (p.1, p.2, e.unset.fault) (λ _. rw (last_steps _ _ _ _ _ (steps g shared), e.read) refl)
 
 pub returns-in_err-check_outputs-clause-met : goal.returns-in_err-check_outputs-clause-met
 returns-in_err-check_outputs-clause-met g c =
     let shared = (goal.at.returns-in_err-check_outputs-clause-met g c).After-deref in
-    let p = err_from_is_err_and c.from_residual-in_err-check_outputs.result
+    let p = err_of c.from_residual-in_err-check_outputs.result
     c.from_residual-in_err-check_outputs.ensures.1 in
-    rw (p.1, p.2) (λ _. unset_met_by _ _ _ (steps g shared) _ _ _ _ _ _
-    c.in_ok-outputs.ensures.sums (table g shared) c.in_err-check_outputs.ensures.unset)
+    rw (p.1, p.2) (λ _. unset_met_by _ _ _ _ _ (steps g shared) _ _ _ _
+    c.in_err-check_outputs.ensures.unset)
 
 pub returns-in_err-end-clause-reading : goal.returns-in_err-end-clause-reading
 returns-in_err-end-clause-reading g c =
     let shared = (goal.at.returns-in_err-end-clause-reading g c).After-deref in
-    let p = err_from_is_err_and c.from_residual-in_err-end.result
-    c.from_residual-in_err-end.ensures.1 in
-    rw (p.1, p.2.0) (λ _. rw (
-      last_steps _ _ _ (steps g shared),
-      checked g shared,
-      c.in_ok-check_outputs.ensures.read,
-      ← c.in_err-end.ensures,
-    ) refl)
+    let p = err_of c.from_residual-in_err-end.result c.from_residual-in_err-end.ensures.1 in
+    let set = c.in_ok-check_outputs.ensures.read in
+    rw (p.1, p.2.0)
+    (λ _. rw (last_steps _ _ _ _ _ (steps g shared), set, ← c.in_err-end.ensures) refl)
 
 pub returns-in_err-end-clause-met : goal.returns-in_err-end-clause-met
 returns-in_err-end-clause-met g c =
     let shared = (goal.at.returns-in_err-end-clause-met g c).After-deref in
-    let p = err_from_is_err_and c.from_residual-in_err-end.result
-    c.from_residual-in_err-end.ensures.1 in
-    rw (p.1, p.2.0, p.2.1, p.2.2, p.2.3) (λ _. end_met_by _ _ _ (steps g shared) _ _
-    (rw (checked g shared, c.in_ok-check_outputs.ensures.read) refl) (sym c.in_err-end.ensures))
+    let p = err_of c.from_residual-in_err-end.result c.from_residual-in_err-end.ensures.1 in
+    rw (p.1, p.2.0, p.2.1, p.2.2, p.2.3) (λ _. end_met_by _ _ _ _ _ (steps g shared) _
+    c.in_ok-check_outputs.ensures.read (sym c.in_err-end.ensures))
 
 -- The whole circuit is read.
 whole : (g : Over) (c : After-deref g) → list_all (λ b. b)
     (drop (length c.deref.result.now - c.in_ok-outputs.outputs.sum) c.deref.result.now) ≡ true →
     Ok tt ≡ check_end c.read_gates.new.tokens.left →
     circuit_of c.args.tokens.now.left ≡ Ok (read g c)
-whole g c all end = rw (last_steps _ _ _ (steps g c), checked g c, all, ← end) refl
+whole g c set end = rw (last_steps _ _ _ _ _ (steps g c), set, ← end) refl
 
 pub new-requires : goal.new-requires
 new-requires g c =

@@ -1,4 +1,4 @@
-use Rattle.std.proofs.Common.{ℕ, List, [], ◌-◌, ◌≤◌, length}
+use Rattle.gc_circuit.proofs.Names.{ℕ, List, [], ◌-◌, ◌≤◌, length}
 use Rattle.gc_circuit.specs.FirstLines.{first_lines}
 use Rattle.gc_circuit.proofs.circuit.Circuit.write_canonical.Given as goal
 

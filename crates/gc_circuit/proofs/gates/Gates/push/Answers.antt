@@ -1,9 +1,5 @@
-use Rattle.std.proofs.Common.{arith}
 use Rattle.gc_circuit.proofs.CheckLemmas.{check_in_range, marked_more}
 use Rattle.gc_circuit.proofs.gates.Gates.push.Goals as goal
-
-pub index_mut-requires : goal.index_mut-requires
-index_mut-requires g c = let within = check_in_range _ _ _ c.requires.passes in omega arith
 
 pub returns-clause-marked : goal.returns-clause-marked
 returns-clause-marked g c = λ wires inputs.

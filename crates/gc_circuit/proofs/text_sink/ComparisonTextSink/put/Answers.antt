@@ -1,7 +1,5 @@
-use Rattle.std.proofs.Common.{◌≡◌, ◌++◌, length, take, drop, append_assoc, take-append-drop, refl, sym, ap, ◌∙◌}
+use Rattle.gc_circuit.proofs.Names.{◌≡◌, ◌++◌, length, take, drop, append_assoc, take-append-drop, refl, sym, ap, ◌∙◌, Decides-eqb, slice_eq-Decides}
 use lib.Pointwise.{pointwise}
-use Rattle.std.proofs.lemmas.Bool.Decides.{Decides-eqb}
-use Rattle.std.proofs.lemmas.Slice.Eq.{slice_eq-Decides}
 use Rattle.std.proofs.Math.Dec.{eqb}
 use Rattle.gc_circuit.proofs.text_sink.ComparisonTextSink.put.Goals as goal
 
