@@ -1,11 +1,10 @@
 -- The text that arrays stand for, as tokens.
-use Rattle.gc_circuit.proofs.Names.{◌≡◌, ℕ, suc, ◌+◌, ◌<◌, ◌≤◌, ◌^◌, inl, inr, ◌++◌, List, [], ◌∷◌, Bool, false, Option, Some, None, Ok, Err, length, map, sum, slice_index_or, take, drop, get_or, nat_le, nat_lt, codes, decimal, refl, sym, ap, ◌∙◌, bytes_eq, if◌then◌else◌, arith, flat_map, range_with_len, AllByRecursion, cases_Bool, nat_tests, length-map, map-append, drop_more, take_more, flat_map-map, bytes_eq-Decides, MAX_GATES, MAX_VALUES, ReadFault, TooLarge, BadNumber, UnknownOperation, BadConstant, WidthsExceedWires, Gate, netlist_of, Number, words_of_gate, words_of_widths, number_at, limited_at, widths_at, operation_of_two, constant_of, operation_of_one, two_at, one_at, gate_at, check_gate, is_set, gates_at, written, canonical_text, words_of_two, words_of_one, words_of_numbers, tokens_of, lines_of_arrays, arrays_text, text_of, GateStops, GatesStop}
+use Rattle.gc_circuit.proofs.Names.{◌≡◌, ℕ, suc, ◌+◌, ◌<◌, ◌≤◌, ◌^◌, inl, inr, ◌++◌, List, [], ◌∷◌, false, None, Ok, Err, length, map, sum, take, drop, get_or, nat_le, nat_lt, codes, decimal, refl, sym, ap, ◌∙◌, bytes_eq, if◌then◌else◌, arith, flat_map, AllByRecursion, cases_Bool, nat_tests, length-map, map-append, drop_more, take_more, flat_map-map, bytes_eq-Decides, MAX_GATES, MAX_VALUES, ReadFault, TooLarge, BadNumber, UnknownOperation, BadConstant, WidthsExceedWires, Gate, netlist_of, Number, words_of_gate, words_of_widths, number_at, limited_at, widths_at, operation_of_two, constant_of, operation_of_one, two_at, one_at, gate_at, written, canonical_text, words_of_two, words_of_numbers, tokens_of, lines_of_arrays, arrays_text, text_of}
 use Rattle.gc_netlist.specs.Text.{tokens, number_of}
 use Rattle.gc_netlist.proofs.ReadingBack.{gate_back, widths_spelled}
 use Rattle.gc_netlist.proofs.WrittenLemmas.{IsToken, IsPlain, decimal_run, number_spelled, number_too_long, lines_tokens, words_spelled}
 use Rattle.gc_circuit.specs.declared.arrays.GateNumbers.{GateNumbers}
 use Rattle.gc_circuit.specs.declared.arrays.Arrays.{Arrays}
-use Rattle.gc_circuit.proofs.CheckLemmas.{stops_found, gates_push, gates_stop}
 
 -- The words of arrays are tokens as they are written.
 widths_tokens : (ns : List ℕ) → AllByRecursion IsToken (map Number ns)

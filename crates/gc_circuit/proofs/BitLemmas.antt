@@ -1,15 +1,11 @@
 -- Bits on the wires.
-use Rattle.gc_circuit.proofs.Names.{◌≡◌, ℕ, ◌+◌, ◌-◌, ◌<◌, ◌≤◌, sum, List, length, map, set, take, get_or, slice_get, Some, inl, refl, sym, ap, ◌∙◌, arith, Bool, false, replicate, ◌++◌, range_with_len, Operation, Gate, Netlist, EachRead, IsLawful, input_wires, IsLocal, values_after, bit_of, bit_rule, bits_of, AreWireBits, after-unset, solution_solves, table_step, table_padded, after-zero, flat_map, take_more, map_more, map_push, get_or-map, get_or_past}
+use Rattle.gc_circuit.proofs.Names.{◌≡◌, ℕ, ◌+◌, ◌-◌, ◌<◌, ◌≤◌, sum, List, length, map, set, get_or, slice_get, Some, inl, refl, sym, ap, ◌∙◌, arith, Bool, false, replicate, ◌++◌, range_with_len, Gate, Netlist, IsLawful, input_wires, IsLocal, values_after, bit_of, bit_rule, bits_of, AreWireBits, after-unset, solution_solves, table_step, table_padded, after-zero, flat_map, get_or-map, get_or_past}
 use Rattle.std.proofs.lemmas.List.Concat.{length-flat_map}
 use Rattle.std.proofs.lemmas.List.Sums.{sum-map}
 use Rattle.std.proofs.lemmas.Simd.{map-map}
 
-pub bit_of_local : (u v : ℕ → Bool) (op : Operation) → EachRead (λ w. u w ≡ v w) op →
-    bit_of u op ≡ bit_of v op
-bit_of_local u v op h = grind arith
-
 pub bit_local : IsLocal bit_rule
-bit_local u v i g h = bit_of_local u v g.operation h
+bit_local u v i g h = grind arith
 
 -- one more gate of the evaluation
 pub bits_more : (c : Netlist) (x : ℕ → Bool) (bits : List Bool) (i : ℕ) (g : Gate) (b : Bool) →

@@ -1,7 +1,7 @@
 -- Checking gates against a table of marks.
 use Rattle.gc_circuit.proofs.Names.{inl, inr, ◌≡◌, ℕ, zero, suc, ◌+◌, ◌-◌, ◌<◌, ◌≤◌, ◌==◌, ◌++◌, List, [], ◌∷◌, Bool, true, false, cond, length, map, set, take, get_or, slice_set, slice_index_or, replicate, Option, Some, None, rules, Result, Ok, Err, refl, sym, ap, ◌∙◌, arith, range_with_len, nat_tests, length-set, get_or-set_same, get_or-set_other, common_steps, list_any-append, ReadFault, Gate, Operation, is_and, first_wire, second_wire, wire_of_one, wire_at_fault, AreMarked, GateStops, GatesStop, read-table, length-table, ◌>>=◌, gate_at, is_set, check_read, check_set, check_reads, check_gate, gates_at}
 use Rattle.std.specs.Int.{from_bool}
-use Rattle.std.proofs.lemmas.List.Sums.{sum_by-append, count_by-le-length}
+use Rattle.std.proofs.lemmas.List.Sums.{sum_by-append}
 use Rattle.std.proofs.lemmas.List.FromFn.{fill_by_all}
 
 module _ (n : ℕ) (s t : ℕ → Bool) (same : (w : ℕ) → w < n → s w ≡ t w) where

@@ -153,23 +153,16 @@ hexadecimal_bad digits n long bad =
     let test : (length digits == 2 * bytes_for n) ≡ true = grind (arith, nat_tests) in
     rw (test, bad) refl
 
-module _ (digits : List ℕ) (n : ℕ) (long : length digits ≡ 2 * bytes_for n)
-    (all : list_all is_hex_digit digits ≡ true) where
-  test : (length digits == 2 * bytes_for n) ≡ true
-  test = grind (arith, nat_tests)
-
-  pub hexadecimal_ok : (bits : List Bool) →
-      ((i : ℕ) → n ≤ i → i < 8 * bytes_for n → wire_bit (Hexadecimal digits) i ≡ false) →
-      bits ≡ map (wire_bit (Hexadecimal digits)) (range_with_len 0 n) →
-      value_of_form (Hexadecimal digits) n ≡ Ok bits
-  hexadecimal_ok bits zero_past is =
-      let none = none_in_range (wire_bit (Hexadecimal digits)) n (8 * bytes_for n - n)
-      (λ i from below. zero_past i from (omega arith)) in
-      rw (test, all, none, is) refl
-
-  pub hexadecimal_spare : has_spare_bit n (Hexadecimal digits) ≡ true →
-      value_of_form (Hexadecimal digits) n ≡ Err SpareBits
-  hexadecimal_spare spare = rw (test, all, spare) refl
+pub hexadecimal_ok : (digits : List ℕ) (n : ℕ) → length digits ≡ 2 * bytes_for n →
+    list_all is_hex_digit digits ≡ true → (bits : List Bool) →
+    ((i : ℕ) → n ≤ i → i < 8 * bytes_for n → wire_bit (Hexadecimal digits) i ≡ false) →
+    bits ≡ map (wire_bit (Hexadecimal digits)) (range_with_len 0 n) →
+    value_of_form (Hexadecimal digits) n ≡ Ok bits
+hexadecimal_ok digits n long all bits zero_past is =
+    let test : (length digits == 2 * bytes_for n) ≡ true = grind (arith, nat_tests) in
+    let none = none_in_range (wire_bit (Hexadecimal digits)) n (8 * bytes_for n - n)
+    (λ i from below. zero_past i from (omega arith)) in
+    rw (test, all, none, is) refl
 
 -- ---- the law
 

@@ -8,10 +8,6 @@ returns-then-len-widths g c = (
   λ h.
       let wide = width_at (λ v. v.items) c.args.values.now c.args.circuit.now.input_widths
       c.loop-i.i c.index-values-i.result h c.loop-i-test.true (sym c.index-values-i.is) in
-      absurd (c.if-len-widths.true (omega (
-        arith,
-        wide,
-        c.len.ensures,
-        ap (λ l. get_or l c.loop-i.i 0) c.input_widths-widths.ensures,
-      ))),
+      let same = ap (λ l. get_or l c.loop-i.i 0) c.input_widths-widths.ensures in
+      absurd (c.if-len-widths.true (omega (arith, wide, c.len.ensures, same))),
 )

@@ -1,5 +1,5 @@
-use Rattle.gc_circuit.proofs.Names.{◌≡◌, ◌≤◌, ◌<◌, length, flat_map, ◌∙◌, ap, arith, common_steps, EachRead-map, length-table, EachRead-below}
-use Rattle.gc_circuit.proofs.BitLemmas.{bits_more, bits_start, bits_end, length_joined}
+use Rattle.gc_circuit.proofs.Names.{◌≡◌, ◌<◌, length, flat_map, ◌∙◌, ap, arith, EachRead-map, length-table, EachRead-below}
+use Rattle.gc_circuit.proofs.BitLemmas.{bits_end, length_joined}
 use Rattle.gc_circuit.proofs.eval.wire_bits.Goals as goal
 
 pub operation_bit-requires : goal.operation_bit-requires

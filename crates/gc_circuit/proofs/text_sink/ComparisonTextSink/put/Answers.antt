@@ -1,4 +1,4 @@
-use Rattle.gc_circuit.proofs.Names.{◌≡◌, ◌++◌, length, take, drop, append_assoc, take-append-drop, refl, sym, ap, ◌∙◌, Decides-eqb, slice_eq-Decides}
+use Rattle.gc_circuit.proofs.Names.{◌≡◌, ◌++◌, length, take, append_assoc, take-append-drop, refl, sym, Decides-eqb, slice_eq-Decides}
 use lib.Pointwise.{pointwise}
 use Rattle.std.proofs.Math.Dec.{eqb}
 use Rattle.gc_circuit.proofs.text_sink.ComparisonTextSink.put.Goals as goal
@@ -13,6 +13,5 @@ returns c = λ whole text held.
     (slice_eq-Decides Decides-eqb (take n left) piece (pointwise eqb (take n left) piece) refl).0
     found.0 in
     let parts : left ≡ piece ++ c.in-Some.left.now =
-    sym (take-append-drop n left) ∙ ap (λ l. l ++ drop n left) begins
-    ∙ ap (λ l. piece ++ l) (sym found.1) in
-    held ∙ ap (λ l. text ++ l) parts ∙ sym (append_assoc text piece c.in-Some.left.now)
+    rw (begins, ← found.1) at (sym (take-append-drop n left)) in
+    rw (append_assoc, ← parts) held
