@@ -3,12 +3,12 @@ pub use Rattle.std.proofs.Common.{◌≡◌, ℕ, suc, ◌+◌, ◌<◌, ◌≤�
 pub use Rattle.std.proofs.lemmas.Bool.{cases_Bool, cases_lt}
 pub use Rattle.std.proofs.lemmas.Bool.Decides.{nat_tests, Decides-eqb}
 pub use Rattle.std.proofs.lemmas.Grind.{common_steps, flat_map-append}
-pub use Rattle.std.proofs.lemmas.List.{length-map, map-append, drop_more, take_more, map_more, map_push, get_or-map, get_or_past, drop_all, take_all, take-map, length-take-le, length-set, get_or-set_same, get_or-set_other}
+pub use Rattle.std.proofs.lemmas.List.{length-map, map-append, drop_more, take_more, get_or-map, get_or_past, drop_all, take_all, take-map, length-take-le, length-set, get_or-set_same, get_or-set_other}
 pub use Rattle.std.proofs.lemmas.List.Folds.{flat_map-map, list_any-append, list_all-map, list_all_more, list_any_at}
 pub use Rattle.std.proofs.lemmas.Result.{err_from_is_err_and as err_of}
 pub use Rattle.std.proofs.lemmas.Slice.Eq.{bytes_eq-Decides, slice_eq-Decides}
 pub use Rattle.std.specs.List.{range_with_len, AllByRecursion, join_with_byte, list_all, list_any}
-pub use Rattle.gc_circuit.specs.Arrays.{words_of_two, words_of_one, words_of_numbers, tokens_of, lines_of_arrays, text_of, IsFound}
+pub use Rattle.gc_circuit.specs.Arrays.{words_of_two, words_of_numbers, tokens_of, lines_of_arrays, text_of, IsFound}
 unfoldable pub use Rattle.gc_circuit.specs.Arrays.{arrays_text}
 pub use Rattle.gc_circuit.specs.Gates.{AreMarked}
 pub use Rattle.gc_circuit.specs.Meaning.{bit_of, bit_rule, bits_of, AreWireBits}
@@ -19,7 +19,7 @@ pub use Rattle.gc_netlist.proofs.SolutionLemmas.{after-unset, solution_solves, a
 pub use Rattle.gc_netlist.proofs.Tables.{table_step, table_padded, after-zero, read-table, length-table, table_end, EachRead-below}
 pub use Rattle.gc_netlist.specs.Canon.{written, line, lines_of_circuit}
 unfoldable pub use Rattle.gc_netlist.specs.Canon.{canonical_text}
-pub use Rattle.gc_netlist.specs.Circuit.{netlist_of, Netlist, EachRead, IsLawful, input_wires, is_and, first_wire, second_wire}
+pub use Rattle.gc_netlist.specs.Circuit.{netlist_of, Netlist, IsLawful, input_wires, is_and, first_wire, second_wire}
 pub use Rattle.gc_netlist.specs.Met.{wire_of_one, wire_at_fault, IsMet, left_after, wire_of_two}
 unfoldable pub use Rattle.gc_netlist.specs.Met.{numbers_left}
 pub use Rattle.gc_netlist.specs.Reading.{number_at, constant_of, is_set, ◌>>=◌, check_end}
