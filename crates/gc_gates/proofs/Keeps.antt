@@ -10,7 +10,6 @@ use lib.ListN.{get_elem?}
 use lib.Seq.{set-get_or}
 use prog.Atomic.{either}
 use Rattle.atomic_table.specs.Table.{State, Me, step, stepped, keeps, Allows}
-use Rattle.atomic_table.specs.Table as table_spec
 use Rattle.atomic_table.specs.Seated.{TableId}
 use Rattle.atomic_table.specs.declared.shared.Seat.{Seat}
 use Rattle.gc_workers.specs.Counts.{total, only}
@@ -19,18 +18,16 @@ use Rattle.gc_rounds.specs.Words.{round_of, bank_of, stamp}
 use Rattle.gc_rounds.specs.Views.{gives, unfair, seals_in}
 use Rattle.gc_rounds.specs.declared.view.Key.{Key}
 use Rattle.gc_gates.specs.Layout.{Layout, IsLayout}
-use Rattle.gc_gates.specs.Frame.{IsBeside, FrameLaw}
+use Rattle.gc_gates.specs.Frame.{IsBeside, Stepped, FrameLaw}
 use Rattle.gc_rounds.specs.declared.view.View.{View}
 use Rattle.gc_rounds.specs.declared.view.Position.TheVariants.{Inside}
 use Rattle.gc_rounds.specs.declared.view.Step.{Step}
 use Rattle.gc_rounds.specs.declared.view.Step.TheVariants.{Load, Store, Claim}
 use Rattle.gc_workers.proofs.Sums.{total-append, total-set, term_le, terms_le, sole, each-set, only_same, only_other, only_le, only_is}
-use Rattle.gc_rounds.proofs.Keeps.{inside_is}
 use Rattle.gc_gates.specs.Pairs.{is_pair, pairs, looked}
-use Rattle.gc_gates.specs.Gates.{in_hand}
+use Rattle.gc_gates.specs.Gates.{in_hand, low_of, high_of}
 use Rattle.gc_gates.specs.Gates as board
-use Rattle.gc_gates.specs.Steps.{Finds, changed, learnt, after_half, after_stored, half_stored, once_learnt}
-use Rattle.gc_gates.specs.Steps as gate_steps
+use Rattle.gc_gates.specs.Steps.{Finds, changed, learnt, after_state, after_half, after_stored, after_done, state_loaded, claimed, half_stored, done_stored, once_learnt}
 use Rattle.gc_gates.specs.Places.{IsPlaceAt}
 use Rattle.gc_gates.specs.declared.view.GateView.{GateView}
 use Rattle.gc_gates.specs.declared.view.Hand.{Hand}
@@ -41,9 +38,6 @@ use Rattle.gc_gates.proofs.PairLemmas.{pair_same, pair_is, look_is, someone, han
 abbrev SeatView : Type 0 → Type 0
 SeatView J = View (GateView J)
 
-plus_zero : (n : ℕ) → n + 0 ≡ n
-plus_zero n = omega arith
-
 module _ (lay : Layout) where
   -- the words lie so
   abbrev at : ℕ → ℕ → ℕ
@@ -52,37 +46,10 @@ module _ (lay : Layout) where
   abbrev state_of : List ℕ → ℕ → ℕ → ℕ
   state_of words r g = board.state_of lay words r g
 
-  abbrev low_of : List ℕ → ℕ → ℕ → ℕ
-  low_of words r g = board.low_of lay words r g
-
-  abbrev high_of : List ℕ → ℕ → ℕ → ℕ
-  high_of words r g = board.high_of lay words r g
-
-  abbrev round_now : List ℕ → ℕ → ℕ
-  round_now words r = lay.now words r
-
-  abbrev after_state : {J : Type 0} → View (GateView J) → ℕ → ℕ → ℕ → View (GateView J)
-  after_state v r g found = gate_steps.after_state lay v r g found
-
-  abbrev state_loaded : {J S : Type 0} → table_spec.Step S → Me S (View (GateView J)) → ℕ
-      → Me S (View (GateView J)) → Type 0
-  state_loaded st m found m' = gate_steps.state_loaded lay st m found m'
-
-  abbrev claimed : {J S : Type 0} → table_spec.Step S → Me S (View (GateView J)) → ℕ
-      → Me S (View (GateView J)) → Type 0
-  claimed st m found m' = gate_steps.claimed lay st m found m'
-
-  abbrev done_stored : {J S : Type 0} → table_spec.Step S → Me S (View (GateView J)) → ℕ
-      → Me S (View (GateView J)) → Type 0
-  done_stored st m found m' = gate_steps.done_stored lay st m found m'
-
-  abbrev after_done : {J : Type 0} → View (GateView J) → ℕ → ℕ → View (GateView J)
-  after_done v r g = gate_steps.after_done lay v r g
-
   -- the halves of a gate are the same in both
   abbrev SameHalves : List ℕ → List ℕ → ℕ → ℕ → Type 0
   SameHalves before now k h =
-      (low_of now k h ≡ low_of before k h) × (high_of now k h ≡ high_of before k h)
+      (low_of lay now k h ≡ low_of lay before k h) × (high_of lay now k h ≡ high_of lay before k h)
 
   -- what a list of known gates and one of looks say of the words
   abbrev Known : List ℕ → List (ℕ × ℕ) → Type 0
@@ -90,13 +57,20 @@ module _ (lay : Layout) where
 
   abbrev Lasting : List ℕ → List (ℕ × ℕ × ℕ) → Type 0
   Lasting words looks = (k h n : ℕ) → 0 < looked k h n looks
-      → (k ≤ round_now words k) × ((state_of words k h ≡ n) ⊎ (stamp k FREE < state_of words k h))
+      → (k ≤ lay.now words k) × ((state_of words k h ≡ n) ⊎ (stamp k FREE < state_of words k h))
 
   -- No bank's round changes, and a state that changes goes up, to a round that its bank has reached.
   record Up (before now : List ℕ) : Type 0 where
-    pub rounds : (k : ℕ) → round_now now k ≡ round_now before k
-    pub moves : (k h : ℕ) → (state_of before k h ≤ state_of now k h) × (k ≤ round_now before k
+    pub rounds : (k : ℕ) → lay.now now k ≡ lay.now before k
+    pub moves : (k h : ℕ) → (state_of before k h ≤ state_of now k h) × (k ≤ lay.now before k
         → (state_of now k h ≡ state_of before k h) ⊎ (stamp k FREE < state_of now k h))
+
+  -- a step beside the banks
+  beside : {J : Type 0} (v : SeatView J) (hand : Hand) (made known : List (ℕ × ℕ))
+      (looks : List (ℕ × ℕ × ℕ)) (e : Step) → IsBeside e
+      → Stepped v (changed v hand made known looks e) e
+  beside v hand made known looks e idle =
+      record { beside = idle; position = refl; all = refl; seats = refl; steps = refl }
 
   looks_last : (before now : List ℕ) (looks : List (ℕ × ℕ × ℕ)) → Up before now
       → Lasting before looks
@@ -126,16 +100,6 @@ module _ (lay : Layout) where
     abbrev Rule : List ℕ → List (SeatView J) → Type 0
     Rule words views = outer key words views × board.Sound lay gates right job words views
 
-    cell_moves : (before now : List ℕ) (k h : ℕ) → state_of now k h ≡ state_of before k h
-        → SameHalves before now k h → round_now now k ≡ round_now before k
-        → board.Cell lay gates right job before k h → board.Cell lay gates right job now k h
-    cell_moves before now k h same halves round c = record {
-      state = omega (arith, c.state);
-      round = omega (arith, c.round, ap round_of same);
-      low = λ e. rw halves.0 (c.low (sym same ∙ e));
-      high = λ e. rw halves.1 (c.high (sym same ∙ e));
-    }
-
     hand_moves : (before now : List ℕ) (hand : Hand)
         → ((k h phase : ℕ) → hand ≡ Has k h phase → SameHalves before now k h)
         → board.IsHandRight lay gates right job before hand
@@ -144,68 +108,14 @@ module _ (lay : Layout) where
     hand_moves before now (Has k h phase) same f = let e = same k h phase refl in
         ((λ l. rw e.0 (f.0 l)), (λ l. rw e.1 (f.1 l)))
 
-    -- a seat's facts last
-    fits_lasts : (before now : List ℕ) (u : SeatView J) → Up before now
-        → ((k h phase : ℕ) → u.inner.hand ≡ Has k h phase → SameHalves before now k h)
-        → board.IsSoundView lay gates right job before u
-        → board.IsSoundView lay gates right job now u
-    fits_lasts before now u up halves f = record {
-      holding = hand_moves before now u.inner.hand halves f.holding;
-      inside = f.inside;
-      knows = λ k h more. omega (arith, f.knows k h more, (up.moves k h).0);
-      looks = looks_last before now u.inner.looks up f.looks;
-      spent = f.spent;
-    }
-
     -- state 1 is of the bank's round
     one_round : (words : List ℕ) (views : List (SeatView J)) (k h : ℕ) → Rule words views
-        → state_of words k h ≡ stamp k IN_HAND → round_now words k ≡ k
+        → state_of words k h ≡ stamp k IN_HAND → lay.now words k ≡ k
     one_round words views k h o is =
         let t = someone (λ (u : SeatView J). in_hand k h u.inner.hand) views
         (omega (arith, o.1.hands k h, only_same)) in
         let p = hand_is k h t.1.inner.hand t.3 in
         law.sees key words views t.0 k t.1 o.0 t.2 ((o.1.fits t.0 t.1 t.2).inside k h p.0 p.1)
-
-    -- who has a gate in hand finds it at state 1
-    taken : (words : List ℕ) (views : List (SeatView J)) (id r g : ℕ) (v : SeatView J)
-        → Rule words views → get_elem? views id ≡ some v → in_hand r g v.inner.hand ≡ 1
-        → state_of words r g ≡ stamp r IN_HAND
-    taken words views id r g v o at_id has =
-        let le = term_le (λ (x : SeatView J). in_hand r g x.inner.hand) views id v at_id in
-        sym (only_is (stamp r IN_HAND) (state_of words r g) (omega (arith, o.1.hands r g)))
-
-    -- a step that changes the view at id from v to w
-    turned : (before now : List ℕ) (views : List (SeatView J)) (id : ℕ) (v w : SeatView J)
-        → board.Sound lay gates right job before views → get_elem? views id ≡ some v
-        → length now ≡ length before → ((k h : ℕ) → state_of before k h ≤ state_of now k h)
-        → ((k h : ℕ) → board.Cell lay gates right job now k h)
-        → ((k h : ℕ) → (in_hand k h w.inner.hand + only (stamp k IN_HAND) (state_of before k h)
-        ≡ in_hand k h v.inner.hand + only (stamp k IN_HAND) (state_of now k h))
-        × (state_of now k h < stamp (k + 1) FREE
-        → pairs k h w.inner.made + only (stamp k DONE) (state_of before k h)
-        ≡ pairs k h v.inner.made + only (stamp k DONE) (state_of now k h))
-        × ((pairs k h w.inner.made ≡ pairs k h v.inner.made)
-        ⊎ (state_of now k h < stamp (k + 1) FREE)))
-        → ((j : ℕ) (u : SeatView J) → j ≢ id → get_elem? views j ≡ some u
-        → board.IsSoundView lay gates right job now u)
-        → board.IsSoundView lay gates right job now w
-        → board.Sound lay gates right job now (set views id w)
-    turned before now views id v w o at_id long le cells counts others mine =
-        let totals = λ (m : SeatView J → ℕ). total-set m views id v w at_id in
-        let makes = λ (k h : ℕ). totals (λ u. pairs k h u.inner.made) in
-        let mades : (k h : ℕ) → state_of now k h < stamp (k + 1) FREE
-        → total (λ (u : SeatView J). pairs k h u.inner.made) (set views id w)
-        ≡ only (stamp k DONE) (state_of now k h) = λ k h l.
-        omega (arith, makes k h, o.mades k h (omega (arith, le k h)), (counts k h).1 l) in record {
-          long = long ∙ o.long;
-          cells = cells;
-          hands = λ k h.
-              omega (arith, totals (λ u. in_hand k h u.inner.hand), o.hands k h, (counts k h).0);
-          once = λ k h. ⊎_elim (λ same. omega (arith, makes k h, o.once k h))
-              (λ l. omega (arith, mades k h l, only_le)) (counts k h).2;
-          mades = mades;
-          fits = each-set _ views id w others mine;
-        }
 
     -- where one seat stands for all, no other has a gate in hand or made one
     pub sees_all : (words : List ℕ) (views : List (SeatView J)) (id : ℕ) (v : SeatView J)
@@ -230,23 +140,24 @@ module _ (lay : Layout) where
         (set views id (changed v v.inner.hand v.inner.made known looks e))
     loaded words views i id v known looks e idle o at_id knows lasting =
         let f = o.1.fits id v at_id in let w = changed v v.inner.hand v.inner.made known looks e in
-        rw (set-get_or words i 0) (
-          law.loads key words views id v w e o.0 at_id (record {
-            beside = idle;
-            position = refl;
-            all = refl;
-            seats = refl;
-            steps = refl;
-          }),
-          turned words words views id v w o.1 at_id refl (λ k h. omega arith) o.1.cells
-              (λ k h. (refl, (λ l. refl), inl refl)) (λ j u ne there. o.1.fits j u there)
-              (record {
-                holding = f.holding;
-                inside = f.inside;
-                knows = knows;
-                looks = lasting;
-                spent = f.spent;
-              }),
+        let totals = λ (m : SeatView J → ℕ). total-set m views id v w at_id in
+        let makes = λ (k h : ℕ). totals (λ u. pairs k h u.inner.made) in rw (set-get_or words i 0) (
+          law.loads key words views id v w e o.0 at_id (beside v v.inner.hand v.inner.made known
+              looks e idle),
+          record {
+            long = o.1.long;
+            cells = o.1.cells;
+            hands = λ k h. omega (arith, totals (λ u. in_hand k h u.inner.hand), o.1.hands k h);
+            once = λ k h. omega (arith, makes k h, o.1.once k h);
+            mades = λ k h l. omega (arith, makes k h, o.1.mades k h l);
+            fits = each-set _ views id w (λ j u ne there. o.1.fits j u there) (record {
+              holding = f.holding;
+              inside = f.inside;
+              knows = knows;
+              looks = lasting;
+              spent = f.spent;
+            });
+          },
         )
 
     kept : (s : State ℕ (SeatView J)) → Rule s.words s.views → holds key s
@@ -276,26 +187,17 @@ module _ (lay : Layout) where
         allowed,
       )
 
-      -- the word says which gate it is, and the seat in which round
-      here : (k h i : ℕ) → i < 3 → v.position ≡ Inside k → at r g + i ≡ at k h + i
-          → (k ≡ r) × (h ≡ g)
-      here k h i i_small position e = (
-        inside_is k r (sym position ∙ p.inside),
-        (law.layout.apart r g k h i i i_small i_small (sym e)).1,
-      )
-
-      now_is : (s : State ℕ (SeatView J)) → Holds s → get_elem? s.views seat.id ≡ some v
-          → round_now s.words r ≡ r
-      now_is s o at_id = law.sees key s.words s.views seat.id r v o.0 at_id p.inside
-
       same_gate : (k h : ℕ) → at k h ≡ at r g → h ≡ g
       same_gate k h e = (law.layout.apart r g k h 0 0 (omega arith) (omega arith)
           (omega (arith, e))).1
 
-      -- so is the round of a gate with the same words
-      round_here : (s : State ℕ (SeatView J)) (k h : ℕ) → Holds s
-          → get_elem? s.views seat.id ≡ some v → at k h ≡ at r g → round_now s.words k ≡ r
-      round_here s k h o at_id is = law.layout.shared s.words r g k h is ∙ now_is s o at_id
+      -- the word says which gate it is, and the seat in which round
+      here : (k h : ℕ) → v.position ≡ Inside k → at r g ≡ at k h → (k ≡ r) × (h ≡ g)
+      here k h position e = (cc, same_gate k h (sym e))
+
+      now_is : (s : State ℕ (SeatView J)) → Holds s → get_elem? s.views seat.id ≡ some v
+          → lay.now s.words r ≡ r
+      now_is s o at_id = law.sees key s.words s.views seat.id r v o.0 at_id p.inside
 
       finds : (s : State ℕ (SeatView J)) → Holds s → get_elem? s.views seat.id ≡ some v
           → Finds v r g (state_of s.words r g)
@@ -310,10 +212,10 @@ module _ (lay : Layout) where
       }
 
       pub loads_state : Owes (at r g) (λ n. n)
-          (state_loaded (step table.slots (at r g) 0 0 none) seat.me)
+          (state_loaded lay (step table.slots (at r g) 0 0 none) seat.me)
       loads_state = owed (omega arith) (λ s h wide at_id small. let o = law.parts key s h in
           let found : ℕ = state_of s.words r g in let f = o.1.fits seat.id v at_id in (
-            after_state v r g found,
+            after_state lay v r g found,
             keeps,
             tt,
             kept _ (loaded s.words s.views (at r g) seat.id v (learnt v.inner.known r g found)
@@ -323,8 +225,7 @@ module _ (lay : Layout) where
                 let here = now_is s o at_id in grind arith)),
             (
               refl,
-              λ k h position e. let it = here k h 0 (omega arith) position (omega (arith, e)) in
-                  rw (it.0, it.1) (finds s o at_id, refl),
+              λ k h position e. let it = here k h position e in rw (it.0, it.1) (finds s o at_id, refl),
             ),
           ))
 
@@ -349,7 +250,7 @@ module _ (lay : Layout) where
               refl,
               refl,
               λ k h position e known j its.
-                  let it = here k h (suc i) (omega arith) position e in
+                  let it = here k h position (omega (arith, e)) in
                   let one : Some job ≡ Some j = sym p.place.about ∙ its in
                   let ours : job ≡ j = cc in
                   rw (it.0, it.1, ← ours)
@@ -357,112 +258,140 @@ module _ (lay : Layout) where
             ),
           ))
 
-      -- the outer rule, after a write to word i of the gate
-      outer_holds : (s : State ℕ (SeatView J)) (i n : ℕ) (hand : Hand) (made known : List (ℕ × ℕ))
-          (e : Step) → IsBeside e → Holds s → get_elem? s.views seat.id ≡ some v
-          → outer key (set s.words (at r g + i) n)
-          (set s.views seat.id (changed v hand made known v.inner.looks e))
-      outer_holds s i n hand made known e idle o at_id =
-          law.writes key s.words s.views seat.id r g i n v
-          (changed v hand made known v.inner.looks e) e o.0 at_id (record {
-            beside = idle;
-            position = refl;
-            all = refl;
-            seats = refl;
-            steps = refl;
-          })
-
-      -- a write to word i of the gate leaves the words of another place,
-      stays_at : (words : List ℕ) (n k h i j : ℕ) → i < 3 → j < 3 → (at k h ≡ at r g → j ≡ i → ⊥)
-          → get_or (set words (at r g + i) n) (at k h + j) 0 ≡ get_or words (at k h + j) 0
-      stays_at words n k h i j a b off = get_or-set_other words (at r g + i) (at k h + j) n 0
-          (λ e. let t = law.layout.apart r g k h i j a b e in off t.2 t.0)
-
-      -- a step that takes gate g to state m of the round, where it was not yet
-      state_turns : (s : State ℕ (SeatView J)) (m : ℕ) (hand : Hand) (made known : List (ℕ × ℕ))
-          (e : Step) → IsBeside e → Holds s → get_elem? s.views seat.id ≡ some v → 0 < m → m < 3
-          → state_of s.words r g < stamp r m
-          → (m ≡ 2 → right job r g 0 (low_of s.words r g) × right job r g 1 (high_of s.words r g))
-          → in_hand r g hand + only (stamp r IN_HAND) (state_of s.words r g)
-          ≡ in_hand r g v.inner.hand + only (stamp r IN_HAND) (stamp r m)
-          → pairs r g made + only (stamp r DONE) (state_of s.words r g)
-          ≡ pairs r g v.inner.made + only (stamp r DONE) (stamp r m)
+      -- A write of n to word i of the gate, which takes its state to m of the round or leaves it
+      -- there. Where a seat has the gate in hand, that is this one.
+      written : (s : State ℕ (SeatView J)) (i word n m : ℕ) (hand : Hand) (made known : List (ℕ × ℕ))
+          (e : Step) → IsBeside e → Holds s → get_elem? s.views seat.id ≡ some v → i < 3
+          → word ≡ at r g + i → 0 < m → m < 3 → state_of s.words r g ≤ stamp r m
+          → state_of s.words r g < stamp r DONE → state_of (set s.words word n) r g ≡ stamp r m
+          → (m ≡ 2 → right job r g 0 (low_of lay (set s.words word n) r g)
+          × right job r g 1 (high_of lay (set s.words word n) r g))
+          → in_hand r g v.inner.hand ≡ only (stamp r IN_HAND) (state_of s.words r g)
+          → in_hand r g hand ≡ only (stamp r IN_HAND) (stamp r m)
+          → pairs r g made ≡ pairs r g v.inner.made + only (stamp r DONE) (stamp r m)
           → ((k h : ℕ) → is_pair k h (r, g) ≡ 0 → (in_hand k h hand ≡ in_hand k h v.inner.hand)
           × (pairs k h made ≡ pairs k h v.inner.made))
-          → board.IsHandRight lay gates right job (set s.words (at r g) (stamp r m)) hand
+          → board.IsHandRight lay gates right job (set s.words word n) hand
           → ((k h phase : ℕ) → hand ≡ Has k h phase → k ≡ r)
-          → (Known (set s.words (at r g) (stamp r m)) v.inner.known
-          → Known (set s.words (at r g) (stamp r m)) known) → (v.seats ≡ 0 → ⊥)
-          → Rule (set s.words (at r g) (stamp r m))
+          → (Known (set s.words word n) v.inner.known → Known (set s.words word n) known)
+          → (v.seats ≡ 0 → ⊥)
+          → Rule (set s.words word n)
           (set s.views seat.id (changed v hand made known v.inner.looks e))
-      state_turns s m hand made known e idle o at_id some_state small old right_halves hand_here
-          made_here elsewhere holding in_it knows real =
-          let f = o.1.fits seat.id v at_id in let words = s.words in let n : ℕ = stamp r m in
-          let now = set words (at r g) n in let w = changed v hand made known v.inner.looks e in
-          let set_to : state_of now r g ≡ n =
-          get_or-set_same words (at r g) n 0 (omega (arith, o.1.long, there)) in
+      written s i word n m hand made known e idle o at_id below is some_state small le undone
+          set_to right_halves own hand_here made_here elsewhere holding in_it knows real =
+          let f = o.1.fits seat.id v at_id in let words = s.words in let now = set words word n in
+          let w = changed v hand made known v.inner.looks e in
+          let round : (k h : ℕ) → at k h ≡ at r g → lay.now words k ≡ r =
+          λ k h same. law.layout.shared words r g k h same ∙ now_is s o at_id in
+          let stays : (k h j x : ℕ) → at k h ≢ at r g → j < 3 → x ≡ at k h + j
+          → get_or now x 0 ≡ get_or words x 0 = λ k h j x ne three at_x.
+          get_or-set_other words word x n 0
+          (λ e. ne (law.layout.apart r g k h i j below three (omega (arith, e, is, at_x))).2) in
           let stay : (k h : ℕ) → at k h ≢ at r g → state_of now k h ≡ state_of words k h =
-          λ k h ne. get_or-set_other words (at r g) (at k h) n 0 ne in
-          let halves : (k h : ℕ) → SameHalves words now k h = λ k h. (
-            rw (plus_zero (at r g)) at (stays_at words n k h 0 1 (omega arith) (omega arith)
-                (λ _ e. absurd (omega (arith, e)))),
-            rw (plus_zero (at r g)) at (stays_at words n k h 0 2 (omega arith) (omega arith)
-                (λ _ e. absurd (omega (arith, e)))),
-          ) in
+          λ k h ne. stays k h 0 (at k h) ne (omega arith) (omega arith) in
+          let halves : (k h : ℕ) → at k h ≢ at r g → SameHalves words now k h = λ k h ne.
+          (stays k h 1 _ ne (omega arith) refl, stays k h 2 _ ne (omega arith) refl) in
           let up : Up words now = record {
-            rounds = λ k. rw (plus_zero (at r g)) at (law.layout.stays words r g 0 n k);
-            moves = λ k h. let off = stay k h in let here = round_here s k h o at_id in grind arith;
+            rounds = λ k. rw is (law.layout.stays words r g i n k);
+            moves = λ k h. let off = stay k h in let here = round k h in grind arith;
           } in
-          let other_counts : (k h y : ℕ) → is_pair k h (r, g) ≡ 0 → y < 3
-          → (at k h ≡ at r g → state_of words k h ≡ stamp k y → k ≡ r)
-          → only (stamp k y) (state_of now k h) ≡ only (stamp k y) (state_of words k h) =
-          λ k h y apart three was. dite (ℕ_discrete (at k h) (at r g))
-          (λ is. let ne : k ≢ r = λ kr.
-          omega (arith, pair_same r g, rw (kr, (same_gate k h is)) at apart) in
-          only_other (stamp k y) (state_of now k h) (λ d. ne (omega (arith, rw (is, set_to) at d)))
-          ∙ sym (only_other (stamp k y) (state_of words k h) (λ d. ne (was is (sym d)))))
-          (λ ne. ap (only (stamp k y)) (stay k h ne)) in (
-            rw (plus_zero (at r g)) at (outer_holds s 0 n hand made known e idle o at_id),
-            turned words now s.views seat.id v w o.1 at_id (length-set words (at r g) n)
-                (λ k h. (up.moves k h).0)
-                (λ k h. dite (ℕ_discrete (at k h) (at r g))
-                (λ is. let same = (same_gate k h is) in record {
-                  state = rw (is, set_to) (omega arith);
-                  round = rw (is, set_to) (omega (arith, up.rounds k, round_here s k h o at_id is));
-                  low = λ d. let two = rw (is, set_to) at d in let kr : k ≡ r = omega arith in
-                      rw (kr, same, (halves r g).0) (right_halves (omega arith)).0;
-                  high = λ d. let two = rw (is, set_to) at d in let kr : k ≡ r = omega arith in
-                      rw (kr, same, (halves r g).1) (right_halves (omega arith)).1;
-                })
-                (λ ne. cell_moves words now k h (stay k h ne) (halves k h) (up.rounds k)
-                (o.1.cells k h)))
-                (λ k h. dite (dec_le 1 (is_pair k h (r, g)))
-                (λ y. let p = pair_is k h (r, g) y in
-                rw (p.0, p.1, set_to) (hand_here, (λ l. made_here), inr (omega arith)))
-                (λ no. let apart : is_pair k h (r, g) ≡ 0 = omega arith in
-                let else = elsewhere k h apart in
-                let ones = other_counts k h 1 apart (omega arith)
-                (λ is d. sym (one_round words s.views k h o d) ∙ round_here s k h o at_id is) in (
-                  omega (arith, else.0),
-                  (λ l. let twos = other_counts k h 2 apart (omega arith)
-                      (λ is d. let l = rw (is, set_to) at l in let d = rw is at d in omega arith) in
-                      omega (arith, else.1)),
-                  inl else.1,
-                )))
-                (λ j u ne there. fits_lasts words now u up (λ k h _ _. halves k h)
-                (o.1.fits j u there))
-                (record {
-                  holding = holding;
-                  inside = λ k h phase has. p.inside ∙ ap Inside (sym (in_it k h phase has));
-                  knows = knows (λ k h more. omega (arith, f.knows k h more, (up.moves k h).0));
-                  looks = looks_last words now v.inner.looks up f.looks;
-                  spent = λ none_left. absurd (real none_left);
-                }),
+          let others : (k h : ℕ) → is_pair k h (r, g) ≡ 0
+          → (only (stamp k IN_HAND) (state_of now k h) ≡ only (stamp k IN_HAND) (state_of words k h))
+          × (state_of now k h < stamp (k + 1) FREE
+          → only (stamp k DONE) (state_of now k h) ≡ only (stamp k DONE) (state_of words k h)) =
+          λ k h apart. dite (ℕ_discrete (at k h) (at r g))
+          (λ same. let gate = same_gate k h same in let here = round k h same in
+          let one = one_round words s.views k h o in
+          let ne : k ≢ r = λ kr. omega (arith, pair_same r g, rw (kr, gate) at apart) in
+          rw (same, set_to) (grind (arith, nat_tests), grind (arith, nat_tests)))
+          (λ ne. rw (stay k h ne) (refl, λ _. refl)) in
+          let counts : (k h : ℕ)
+          → (in_hand k h hand + only (stamp k IN_HAND) (state_of words k h)
+          ≡ in_hand k h v.inner.hand + only (stamp k IN_HAND) (state_of now k h))
+          × (state_of now k h < stamp (k + 1) FREE
+          → pairs k h made + only (stamp k DONE) (state_of words k h)
+          ≡ pairs k h v.inner.made + only (stamp k DONE) (state_of now k h))
+          × ((pairs k h made ≡ pairs k h v.inner.made) ⊎ (state_of now k h < stamp (k + 1) FREE)) =
+          λ k h. dite (dec_le 1 (is_pair k h (r, g)))
+          (λ y. let q = pair_is k h (r, g) y in rw (q.0, q.1, set_to)
+          (omega (arith, own), (λ l. omega (arith, only_other)), inr (omega arith)))
+          (λ no. let apart : is_pair k h (r, g) ≡ 0 = omega arith in let else = elsewhere k h apart in
+          let same = others k h apart in (
+            omega (arith, else.0),
+            (λ l. omega (arith, else.1, same.1 l)),
+            inl else.1,
+          )) in
+          let totals = λ (m : SeatView J → ℕ). total-set m s.views seat.id v w at_id in
+          let makes = λ (k h : ℕ). totals (λ u. pairs k h u.inner.made) in
+          let mades : (k h : ℕ) → state_of now k h < stamp (k + 1) FREE
+          → total (λ (u : SeatView J). pairs k h u.inner.made) (set s.views seat.id w)
+          ≡ only (stamp k DONE) (state_of now k h) = λ k h l.
+          omega (arith, makes k h, o.1.mades k h (omega (arith, (up.moves k h).0)), (counts k h).1 l) in (
+            rw is (law.writes key words s.views seat.id r g i n v w e o.0 at_id
+                (beside v hand made known v.inner.looks e idle)),
+            record {
+              long = length-set words word n ∙ o.1.long;
+              cells = λ k h. dite (ℕ_discrete (at k h) (at r g))
+                  (λ same. let gate = same_gate k h same in record {
+                    state = rw (same, set_to) (omega arith);
+                    round = rw (same, set_to) (omega (arith, up.rounds k, round k h same));
+                    low = λ d. let two = rw (same, set_to) at d in let kr : k ≡ r = omega arith in
+                        rw (kr, gate) (right_halves (omega arith)).0;
+                    high = λ d. let two = rw (same, set_to) at d in let kr : k ≡ r = omega arith in
+                        rw (kr, gate) (right_halves (omega arith)).1;
+                  })
+                  (λ ne. let c = o.1.cells k h in let same = stay k h ne in
+                  let both = halves k h ne in record {
+                    state = omega (arith, c.state);
+                    round = omega (arith, c.round, up.rounds k, ap round_of same);
+                    low = λ e. rw both.0 (c.low (sym same ∙ e));
+                    high = λ e. rw both.1 (c.high (sym same ∙ e));
+                  });
+              hands = λ k h. omega
+                  (arith, totals (λ u. in_hand k h u.inner.hand), o.1.hands k h, (counts k h).0);
+              once = λ k h. ⊎_elim (λ same. omega (arith, makes k h, o.1.once k h))
+                  (λ l. omega (arith, mades k h l, only_le)) (counts k h).2;
+              mades = mades;
+              fits = each-set _ s.views seat.id w
+                  (λ j u ne there. let theirs = o.1.fits j u there in record {
+                    holding = hand_moves words now u.inner.hand (λ k h ph e. halves k h (λ same.
+                        let kr : k ≡ r = sym
+                        (law.sees key words s.views j k u o.0 there (theirs.inside k h ph e))
+                        ∙ round k h same in
+                        let it : in_hand r g u.inner.hand ≡ 1 =
+                        rw (e, kr, (same_gate k h same)) (pair_same r g) in
+                        let two = terms_le (λ (x : SeatView J). in_hand r g x.inner.hand) s.views
+                        seat.id j v u ne at_id there in omega (arith, o.1.hands r g, own)))
+                        theirs.holding;
+                    inside = theirs.inside;
+                    knows = λ k h more. omega (arith, theirs.knows k h more, (up.moves k h).0);
+                    looks = looks_last words now u.inner.looks up theirs.looks;
+                    spent = theirs.spent;
+                  })
+                  (record {
+                    holding = holding;
+                    inside = λ k h phase has. p.inside ∙ ap Inside (sym (in_it k h phase has));
+                    knows = knows (λ k h more. omega (arith, f.knows k h more, (up.moves k h).0));
+                    looks = looks_last words now v.inner.looks up f.looks;
+                    spent = λ none_left. absurd (real none_left);
+                  });
+            },
+          )
+
+      -- what the seat has in hand is in hand by its state word
+      held : (s : State ℕ (SeatView J)) (phase : ℕ) → Holds s → get_elem? s.views seat.id ≡ some v
+          → v.inner.hand ≡ Has r g phase
+          → (in_hand r g v.inner.hand ≡ 1) × (state_of s.words r g ≡ stamp r IN_HAND)
+      held s phase o at_id has =
+          let le = term_le (λ (x : SeatView J). in_hand r g x.inner.hand) s.views seat.id v at_id in
+          let own = ap (in_hand r g) has ∙ pair_same r g in (
+            own,
+            sym (only_is (stamp r IN_HAND) (state_of s.words r g) (omega (arith, o.1.hands r g))),
           )
 
       pub claims : (old : ℕ) → v.inner.hand ≡ Empty → 0 < v.seats → 0 < looked r g old v.inner.looks
           → old ≤ stamp r FREE → Owes (at r g) (λ n. either (eqb n old) (stamp r IN_HAND) n)
-          (claimed (step table.slots (at r g) old (stamp r IN_HAND) none) seat.me)
+          (claimed lay (step table.slots (at r g) old (stamp r IN_HAND) none) seat.me)
       claims old empty seated look free =
           owed (omega arith) (λ s h wide at_id small. let o = law.parts key s h in
           let f = o.1.fits seat.id v at_id in let found : ℕ = state_of s.words r g in
@@ -473,18 +402,19 @@ module _ (lay : Layout) where
             keeps,
             tt,
             kept _ (rw (ne_eqb found (stamp r DONE) (λ two. omega arith))
-                (state_turns s 1 (Has r g 0) v.inner.made v.inner.known (Claim (at r g) found)
-                ((λ b. refl), (λ k. refl), refl) o at_id (omega arith) (omega arith) (omega arith)
-                (λ two. absurd (omega arith))
-                (omega (arith, pair_same r g, ap (in_hand r g) empty, only_other, only_same))
-                (omega (arith, only_other))
+                (written s 0 (at r g) (stamp r IN_HAND) 1 (Has r g 0) v.inner.made v.inner.known
+                (Claim (at r g) found) ((λ b. refl), (λ k. refl), refl) o at_id (omega arith)
+                (omega arith) (omega arith) (omega arith) (omega arith) (omega arith)
+                (get_or-set_same s.words (at r g) (stamp r IN_HAND) 0
+                (omega (arith, o.1.long, there)))
+                (λ two. absurd (omega arith)) (omega (arith, ap (in_hand r g) empty, only_other))
+                (omega (arith, pair_same r g, only_same)) (omega (arith, only_other))
                 (λ k h apart. (apart ∙ sym (ap (in_hand k h) empty), refl))
                 ((λ l. absurd (omega arith)), (λ l. absurd (omega arith)))
                 (λ k h phase has. cc) (λ known. known) (λ none_left. omega arith))),
             (
               refl,
-              λ k h position e. let it = here k h 0 (omega arith) position (omega (arith, e)) in
-                  rw (it.0, it.1) (finds s o at_id, inl hit, refl),
+              λ k h position e. let it = here k h position e in rw (it.0, it.1) (finds s o at_id, inl hit, refl),
             ),
           ))
           (λ ne. let later : stamp r FREE < found = omega (arith, f.looks r g old look) in
@@ -499,8 +429,7 @@ module _ (lay : Layout) where
                 (learns s.words v.inner.known r g f.knows) f.looks),
             (
               refl,
-              λ k h position e. let it = here k h 0 (omega arith) position (omega (arith, e)) in
-                  rw (it.0, it.1) (finds s o at_id, inr later, refl),
+              λ k h position e. let it = here k h position e in rw (it.0, it.1) (finds s o at_id, inr later, refl),
             ),
           )))
 
@@ -523,88 +452,47 @@ module _ (lay : Layout) where
           (λ _. half_stored (step table.slots (at r g + suc i) n 0 none) seat.me n)
       stores_half i n two has is =
           owed (omega arith) (λ s h wide at_id small. let o = law.parts key s h in
-          let f = o.1.fits seat.id v at_id in let words = s.words in
-          let word : ℕ = at r g + suc i in let now = set words word n in
-          let w = after_stored v r g (i + 1) word n in
-          let own : in_hand r g v.inner.hand ≡ 1 = ap (in_hand r g) has ∙ pair_same r g in
-          let one = taken words s.views seat.id r g v o at_id own in
-          let states : (k h : ℕ) → state_of now k h ≡ state_of words k h =
-          λ k h. rw (plus_zero (at k h)) at (stays_at words n k h (suc i) 0 (omega arith)
-          (omega arith) (λ _ e. absurd (omega (arith, e)))) in
-          let halves : (k h : ℕ) → at k h ≢ at r g → SameHalves words now k h = λ k h ne. (
-            stays_at words n k h (suc i) 1 (omega arith) (omega arith) (λ is _. ne is),
-            stays_at words n k h (suc i) 2 (omega arith) (omega arith) (λ is _. ne is),
-          ) in
-          let up : Up words now = record {
-            rounds = law.layout.stays words r g (suc i) n;
-            moves = λ k h. (omega (arith, states k h), λ le. inl (states k h));
-          } in (
-            w,
+          let f = o.1.fits seat.id v at_id in let word : ℕ = at r g + suc i in
+          let one = held s i o at_id has in let state = one.1 in (
+            after_stored v r g (i + 1) word n,
             keeps,
             tt,
-            kept _ ((
-              outer_holds s (suc i) n (Has r g (i + 1)) v.inner.made v.inner.known (Store word n)
-                  ((λ b. refl), (λ k. refl), refl) o at_id,
-              turned words now s.views seat.id v w o.1 at_id (length-set words word n)
-                  (λ k h. (up.moves k h).0)
-                  (λ k h. dite (ℕ_discrete (at k h) (at r g))
-                  (λ is. let e : state_of now k h ≡ stamp r IN_HAND = rw is (states r g ∙ one) in
-                  record {
-                    state = omega (arith, e);
-                    round = omega (arith, e, up.rounds k, round_here s k h o at_id is);
-                    low = λ two. absurd (omega arith);
-                    high = λ two. absurd (omega arith);
-                  })
-                  (λ ne. cell_moves words now k h (states k h) (halves k h ne) (up.rounds k)
-                  (o.1.cells k h)))
-                  (λ k h. (
-                    omega (arith, ap (in_hand k h) has, ap (only (stamp k IN_HAND)) (states k h)),
-                    (λ l. omega (arith, ap (only (stamp k DONE)) (states k h))),
-                    inl refl,
-                  ))
-                  (λ j u ne there. let theirs = o.1.fits j u there in
-                  fits_lasts words now u up (λ k h ph e. halves k h (λ is.
-                  let kr : k ≡ r = sym
-                  (law.sees key s.words s.views j k u o.0 there (theirs.inside k h ph e))
-                  ∙ round_here s k h o at_id is in
-                  let it : in_hand r g u.inner.hand ≡ 1 =
-                  rw (e, kr, (same_gate k h is)) (pair_same r g) in
-                  let two = terms_le (λ (x : SeatView J). in_hand r g x.inner.hand) s.views
-                  seat.id j
-                  v u ne at_id there in omega (arith, o.1.hands r g, only_le))) theirs)
-                  (record {
-                    holding = half_right words i n two (omega (arith, o.1.long, there)) is
-                        (rw has at f.holding);
-                    inside = λ k h ph e. let same : r ≡ k = cc in p.inside ∙ ap Inside same;
-                    knows = λ k h more. omega (arith, f.knows k h more, (up.moves k h).0);
-                    looks = looks_last words now v.inner.looks up f.looks;
-                    spent = λ none_left. let gone = (f.spent none_left).0 in absurd (cc);
-                  }),
-            )),
+            kept _ (written s (suc i) word n 1 (Has r g (i + 1)) v.inner.made v.inner.known
+                (Store word n) ((λ b. refl), (λ k. refl), refl) o at_id (omega arith) refl
+                (omega arith) (omega arith) (omega arith) (omega arith)
+                (get_or-set_other s.words word (at r g) n 0 (λ e. omega arith) ∙ state)
+                (λ m. absurd (omega arith)) (one.0 ∙ sym (only_same _ _ (sym state)))
+                (omega (arith, pair_same r g, only_same)) (omega (arith, only_other))
+                (λ k h apart. (sym (ap (in_hand k h) has), refl))
+                (half_right s.words i n two (omega (arith, o.1.long, there)) is
+                (rw has at f.holding)) (λ k h ph e. cc) (λ known. known)
+                (λ none_left. let gone = (f.spent none_left).0 in absurd (cc))),
             (refl, λ k h ph e. cc),
           ))
 
       pub stores_done : v.inner.hand ≡ Has r g 2 → Owes (at r g) (λ _. stamp r DONE)
-          (λ _. done_stored (step table.slots (at r g) (stamp r DONE) 0 none) seat.me
+          (λ _. done_stored lay (step table.slots (at r g) (stamp r DONE) 0 none) seat.me
           (stamp r DONE))
       stores_done has = owed (omega arith) (λ s h wide at_id small. let o = law.parts key s h in
           let f = o.1.fits seat.id v at_id in let now = set s.words (at r g) (stamp r DONE) in
           let two : state_of now r g ≡ stamp r DONE =
           get_or-set_same s.words (at r g) (stamp r DONE) 0
           (omega (arith, o.1.long, there)) in
-          let own : in_hand r g v.inner.hand ≡ 1 = ap (in_hand r g) has ∙ pair_same r g in
-          let one = taken s.words s.views seat.id r g v o at_id own in
-          let held = rw has at f.holding in
+          let one = held s 2 o at_id has in let state = one.1 in let halves = rw has at f.holding in
+          let half : (j : ℕ) → get_or now (at r g + suc j) 0 ≡ get_or s.words (at r g + suc j) 0 =
+          λ j. get_or-set_other s.words (at r g) (at r g + suc j) (stamp r DONE) 0
+          (λ e. omega arith) in
           let adds = λ (k h : ℕ). total-append (is_pair k h) v.inner.made ((r, g) ∷ []) in (
-            after_done v r g,
+            after_done lay v r g,
             keeps,
             tt,
-            kept _ (state_turns s 2 Empty (v.inner.made ++ (r, g) ∷ []) ((r, g) ∷ v.inner.known)
-                (Store (at r g) (stamp r DONE)) ((λ b. refl), (λ k. refl), refl) o at_id
-                (omega arith) (omega arith) (omega arith)
-                (λ _. (held.0 (omega arith), held.1 (omega arith)))
-                (omega (arith, ap (only (stamp r IN_HAND)) one, only_same, only_other))
-                (omega (arith, adds r g, pair_same r g, only_other, only_same))
+            kept _ (written s 0 (at r g) (stamp r DONE) 2 Empty (v.inner.made ++ (r, g) ∷ [])
+                ((r, g) ∷ v.inner.known) (Store (at r g) (stamp r DONE))
+                ((λ b. refl), (λ k. refl), refl) o at_id (omega arith)
+                (omega arith) (omega arith) (omega arith) (omega arith) (omega arith) two
+                (λ _. (rw (half 0) (halves.0 (omega arith)), rw (half 1) (halves.1 (omega arith))))
+                (one.0 ∙ sym (only_same _ _ (sym state)))
+                (omega (arith, only_other)) (omega (arith, adds r g, pair_same r g, only_same))
                 (λ k h apart. (sym (ap (in_hand k h) has ∙ apart), omega (arith, adds k h)))
                 tt (λ k h phase e. absurd (cc)) (knows_too now v.inner.known r g (omega arith))
                 (λ none_left. let gone = (f.spent none_left).0 in absurd (cc))),
