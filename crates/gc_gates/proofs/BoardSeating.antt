@@ -1,14 +1,9 @@
 -- Making, joining and closing keep the rule of one board.
-use Rattle.std.proofs.Common.{◌≡◌, ℕ, zero, suc, ◌+◌, ◌*◌, ◌<◌, List, [], ◌∷◌, ◌++◌, length, set, get_or, sym, refl, ap, ◌∙◌, arith, replicate}
-use mathlib.Core.Option.{some}
-use lib.ListN.{get_elem?}
+use Rattle.std.proofs.Common.{◌≡◌, ℕ, ◌+◌, ◌*◌, ◌<◌, List, [], ◌∷◌, ◌++◌, sym, refl, ap, ◌∙◌, arith, replicate}
 use Rattle.std.proofs.lemmas.List.{length-replicate}
 use Rattle.atomic_table.specs.Table.{State, Splits, Joins, Final, Seen}
 use Rattle.atomic_table.proofs.Lists.{set_else}
-use Rattle.gc_workers.specs.Counts.{only}
 use Rattle.gc_workers.proofs.Sums.{total-append, total-dealt, total-joined, each-one, each-dealt, each-joined, only_other, zeros}
-use Rattle.gc_workers.specs.declared.states.TheConstants.{DONE, IN_HAND}
-use Rattle.gc_rounds.specs.Words.{stamp}
 use Rattle.gc_rounds.specs.Steps.{one_less, merged, nobody}
 use Rattle.gc_rounds.specs.declared.view.View.{View}
 use Rattle.gc_rounds.specs.declared.view.Key.{Key}

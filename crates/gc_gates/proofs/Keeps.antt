@@ -1,7 +1,6 @@
 -- Each kind of step keeps the rule.
 use Rattle.std.proofs.Common.{◌≡◌, ℕ, ◌+◌, ◌<◌, ◌≤◌, ◌≢◌, ◌⊎◌, List, [], ◌∷◌, ◌++◌, zero, suc, length, set, get_or, sym, refl, ap, ◌∙◌, inl, inr, ⊎_elim, arith, eqb, eq-eqb, ne_eqb, length-set, get_or-set_other, get_or-set_same}
 use Rattle.std.proofs.lemmas.Bool.Decides.{nat_tests}
-use Rattle.std.proofs.lemmas.Grind.{common_steps}
 use mathlib.Core.Logic.{dite}
 use native.Mathlib.Decide.{ℕ_discrete, dec_le}
 use mathlib.Core.Option.{none, some}
@@ -9,15 +8,14 @@ use Rattle.std.specs.Prelude.{Some}
 use lib.ListN.{get_elem?}
 use lib.Seq.{set-get_or}
 use prog.Atomic.{either}
-use Rattle.atomic_table.specs.Table.{State, Me, step, stepped, keeps, Allows}
+use Rattle.atomic_table.specs.Table.{State, Me, step, keeps, Allows}
 use Rattle.atomic_table.specs.Seated.{TableId}
 use Rattle.atomic_table.specs.declared.shared.Seat.{Seat}
 use Rattle.gc_workers.specs.Counts.{total, only}
 use Rattle.gc_workers.specs.declared.states.TheConstants.{DONE, FREE, IN_HAND}
-use Rattle.gc_rounds.specs.Words.{round_of, bank_of, stamp}
-use Rattle.gc_rounds.specs.Views.{gives, unfair, seals_in}
+use Rattle.gc_rounds.specs.Words.{round_of, stamp}
 use Rattle.gc_rounds.specs.declared.view.Key.{Key}
-use Rattle.gc_gates.specs.Layout.{Layout, IsLayout}
+use Rattle.gc_gates.specs.Layout.{Layout}
 use Rattle.gc_gates.specs.Frame.{IsBeside, Stepped, FrameLaw}
 use Rattle.gc_rounds.specs.declared.view.View.{View}
 use Rattle.gc_rounds.specs.declared.view.Position.TheVariants.{Inside}
@@ -73,8 +71,7 @@ module _ (lay : Layout) where
       record { beside = idle; position = refl; all = refl; seats = refl; steps = refl }
 
   looks_last : (before now : List ℕ) (looks : List (ℕ × ℕ × ℕ)) → Up before now
-      → Lasting before looks
-      → Lasting now looks
+      → Lasting before looks → Lasting now looks
   looks_last before now looks up f k h n more =
       let was = f k h n more in let goes = up.moves k h in let same = up.rounds k in grind arith
 
@@ -244,8 +241,7 @@ module _ (lay : Layout) where
             keeps,
             tt,
             kept _ (loaded s.words s.views word seat.id v v.inner.known v.inner.looks
-                (Load word found)
-                ((λ b. refl), (λ k. refl), refl) o at_id f.knows f.looks),
+                (Load word found) ((λ b. refl), (λ k. refl), refl) o at_id f.knows f.looks),
             (
               refl,
               refl,
@@ -295,16 +291,6 @@ module _ (lay : Layout) where
             rounds = λ k. rw is (law.layout.stays words r g i n k);
             moves = λ k h. let off = stay k h in let here = round k h in grind arith;
           } in
-          let others : (k h : ℕ) → is_pair k h (r, g) ≡ 0
-          → (only (stamp k IN_HAND) (state_of now k h) ≡ only (stamp k IN_HAND) (state_of words k h))
-          × (state_of now k h < stamp (k + 1) FREE
-          → only (stamp k DONE) (state_of now k h) ≡ only (stamp k DONE) (state_of words k h)) =
-          λ k h apart. dite (ℕ_discrete (at k h) (at r g))
-          (λ same. let gate = same_gate k h same in let here = round k h same in
-          let one = one_round words s.views k h o in
-          let ne : k ≢ r = λ kr. omega (arith, pair_same r g, rw (kr, gate) at apart) in
-          rw (same, set_to) (grind (arith, nat_tests), grind (arith, nat_tests)))
-          (λ ne. rw (stay k h ne) (refl, λ _. refl)) in
           let counts : (k h : ℕ)
           → (in_hand k h hand + only (stamp k IN_HAND) (state_of words k h)
           ≡ in_hand k h v.inner.hand + only (stamp k IN_HAND) (state_of now k h))
@@ -315,12 +301,14 @@ module _ (lay : Layout) where
           λ k h. dite (dec_le 1 (is_pair k h (r, g)))
           (λ y. let q = pair_is k h (r, g) y in rw (q.0, q.1, set_to)
           (omega (arith, own), (λ l. omega (arith, only_other)), inr (omega arith)))
-          (λ no. let apart : is_pair k h (r, g) ≡ 0 = omega arith in let else = elsewhere k h apart in
-          let same = others k h apart in (
-            omega (arith, else.0),
-            (λ l. omega (arith, else.1, same.1 l)),
-            inl else.1,
-          )) in
+          (λ no. let apart : is_pair k h (r, g) ≡ 0 = omega arith in
+          let else = elsewhere k h apart in dite (ℕ_discrete (at k h) (at r g))
+          (λ same. let gate = same_gate k h same in let here = round k h same in
+          let one = one_round words s.views k h o in
+          let ne : k ≢ r = λ kr. omega (arith, pair_same r g, rw (kr, gate) at apart) in
+          rw (same, set_to) (grind (arith, nat_tests), (λ l. grind (arith, nat_tests)), inl else.1))
+          (λ ne. rw (stay k h ne)
+          (omega (arith, else.0), (λ l. omega (arith, else.1)), inl else.1))) in
           let totals = λ (m : SeatView J → ℕ). total-set m s.views seat.id v w at_id in
           let makes = λ (k h : ℕ). totals (λ u. pairs k h u.inner.made) in
           let mades : (k h : ℕ) → state_of now k h < stamp (k + 1) FREE
@@ -414,7 +402,8 @@ module _ (lay : Layout) where
                 (λ k h phase has. cc) (λ known. known) (λ none_left. omega arith))),
             (
               refl,
-              λ k h position e. let it = here k h position e in rw (it.0, it.1) (finds s o at_id, inl hit, refl),
+              λ k h position e. let it = here k h position e in
+                  rw (it.0, it.1) (finds s o at_id, inl hit, refl),
             ),
           ))
           (λ ne. let later : stamp r FREE < found = omega (arith, f.looks r g old look) in
@@ -429,7 +418,8 @@ module _ (lay : Layout) where
                 (learns s.words v.inner.known r g f.knows) f.looks),
             (
               refl,
-              λ k h position e. let it = here k h position e in rw (it.0, it.1) (finds s o at_id, inr later, refl),
+              λ k h position e. let it = here k h position e in
+                  rw (it.0, it.1) (finds s o at_id, inr later, refl),
             ),
           )))
 
