@@ -222,7 +222,8 @@ module _ (lay : Layout) where
                 let here = now_is s o at_id in grind arith)),
             (
               refl,
-              λ k h position e. let it = here k h position e in rw (it.0, it.1) (finds s o at_id, refl),
+              λ k h position e. let it = here k h position e in
+                  rw (it.0, it.1) (finds s o at_id, refl),
             ),
           ))
 
@@ -256,10 +257,11 @@ module _ (lay : Layout) where
 
       -- A write of n to word i of the gate, which takes its state to m of the round or leaves it
       -- there. Where a seat has the gate in hand, that is this one.
-      written : (s : State ℕ (SeatView J)) (i word n m : ℕ) (hand : Hand) (made known : List (ℕ × ℕ))
-          (e : Step) → IsBeside e → Holds s → get_elem? s.views seat.id ≡ some v → i < 3
-          → word ≡ at r g + i → 0 < m → m < 3 → state_of s.words r g ≤ stamp r m
-          → state_of s.words r g < stamp r DONE → state_of (set s.words word n) r g ≡ stamp r m
+      written : (s : State ℕ (SeatView J)) (i word n m : ℕ) (hand : Hand)
+          (made known : List (ℕ × ℕ)) (e : Step) → IsBeside e → Holds s
+          → get_elem? s.views seat.id ≡ some v → i < 3 → word ≡ at r g + i → 0 < m → m < 3
+          → state_of s.words r g ≤ stamp r m → state_of s.words r g < stamp r DONE
+          → state_of (set s.words word n) r g ≡ stamp r m
           → (m ≡ 2 → right job r g 0 (low_of lay (set s.words word n) r g)
           × right job r g 1 (high_of lay (set s.words word n) r g))
           → in_hand r g v.inner.hand ≡ only (stamp r IN_HAND) (state_of s.words r g)
@@ -314,7 +316,8 @@ module _ (lay : Layout) where
           let mades : (k h : ℕ) → state_of now k h < stamp (k + 1) FREE
           → total (λ (u : SeatView J). pairs k h u.inner.made) (set s.views seat.id w)
           ≡ only (stamp k DONE) (state_of now k h) = λ k h l.
-          omega (arith, makes k h, o.1.mades k h (omega (arith, (up.moves k h).0)), (counts k h).1 l) in (
+          let was = o.1.mades k h (omega (arith, (up.moves k h).0)) in
+          omega (arith, makes k h, (counts k h).1 l) in (
             rw is (law.writes key words s.views seat.id r g i n v w e o.0 at_id
                 (beside v hand made known v.inner.looks e idle)),
             record {

@@ -4,11 +4,3 @@ use Rattle.gc_gates.proofs.steps.claim.Goals as goal
 pub compare_exchange-requires : goal.compare_exchange-requires
 compare_exchange-requires g c = let w = c.requires in rw (c.index.ensures.at, c.stamped.ensures)
     (claims _ _ _ _ _ g.met.R.Frame.law _ w.place _ w.empty w.seated w.looked w.free)
-
-pub returns-clause-finds : goal.returns-clause-finds
-returns-clause-finds g c = (c.compare_exchange.ensures.2.1 c.args.at.round c.args.at.gate
-    c.requires.place.inside c.index.ensures.at).0
-
-pub returns-clause-found : goal.returns-clause-found
-returns-clause-found g c = (c.compare_exchange.ensures.2.1 c.args.at.round c.args.at.gate
-    c.requires.place.inside c.index.ensures.at).1
