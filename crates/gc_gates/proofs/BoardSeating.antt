@@ -1,5 +1,5 @@
 -- Making, joining and closing keep the rule of one board.
-use Rattle.std.proofs.Common.{◌≡◌, ℕ, ◌+◌, ◌*◌, ◌<◌, List, [], ◌∷◌, ◌++◌, sym, refl, ap, ◌∙◌, arith, replicate}
+use Rattle.std.proofs.Common.{rules, ◌≡◌, ℕ, ◌+◌, ◌*◌, ◌<◌, List, [], ◌∷◌, ◌++◌, sym, refl, ap, ◌∙◌, arith, replicate}
 use Rattle.std.proofs.lemmas.List.{length-replicate}
 use Rattle.atomic_table.specs.Table.{State, Splits, Joins, Final, Seen}
 use Rattle.atomic_table.proofs.Lists.{set_else}
@@ -97,29 +97,12 @@ module _ {J : Type 0} (gates : J → ℕ) (right : J → ℕ → ℕ → ℕ →
   pub deals : (id : ℕ) (v : View (GateView J)) → 1 < v.seats
       → Splits Holds id v (one_less v) (dealt_seat v)
   deals id v several = splits id v (one_less v) (dealt_seat v) (omega arith) refl (λ r e. cc)
-      (λ r g. omega arith) (λ r g. omega arith) (λ words f. (
-        record {
-          holding = f.holding;
-          inside = f.inside;
-          knows = f.knows;
-          looks = f.looks;
-          spent = λ e. absurd (omega arith);
-        },
-        blank words _ refl refl refl refl,
-      ))
+      (λ r g. omega arith) (λ r g. omega arith)
+      (λ words f. (search (rules, f), blank words _ refl refl refl refl))
 
   pub notes : (id : ℕ) (v : View (GateView J)) → Splits Holds id v v (note_of v)
   notes id v = splits id v v (note_of v) (omega arith) refl (λ r e. absurd (cc))
-      (λ r g. omega arith) (λ r g. omega arith) (λ words f. (
-        f,
-        record {
-          holding = tt;
-          inside = λ r g phase e. absurd (cc);
-          knows = f.knows;
-          looks = λ r g n k. absurd (omega arith);
-          spent = λ _. (refl, refl);
-        },
-      ))
+      (λ r g. omega arith) (λ r g. omega arith) (λ words f. (f, search (rules, f)))
 
   pub joins : (id : ℕ) (v : View (GateView J)) (other : ℕ) (w : View (GateView J))
       → w.inner.hand ≡ Empty

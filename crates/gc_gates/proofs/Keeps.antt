@@ -1,5 +1,5 @@
 -- Each kind of step keeps the rule.
-use Rattle.std.proofs.Common.{◌≡◌, ℕ, ◌+◌, ◌<◌, ◌≤◌, ◌≢◌, ◌⊎◌, List, [], ◌∷◌, ◌++◌, zero, suc, length, set, get_or, sym, refl, ap, ◌∙◌, inl, inr, ⊎_elim, arith, eqb, eq-eqb, ne_eqb, length-set, get_or-set_other, get_or-set_same}
+use Rattle.std.proofs.Common.{rules, ◌≡◌, ℕ, ◌+◌, ◌<◌, ◌≤◌, ◌≢◌, ◌⊎◌, List, [], ◌∷◌, ◌++◌, zero, suc, length, set, get_or, sym, refl, ap, ◌∙◌, inl, inr, ⊎_elim, arith, eqb, eq-eqb, ne_eqb, length-set, get_or-set_other, get_or-set_same}
 use Rattle.std.proofs.lemmas.Bool.Decides.{nat_tests}
 use mathlib.Core.Logic.{dite}
 use native.Mathlib.Decide.{ℕ_discrete, dec_le}
@@ -147,13 +147,8 @@ module _ (lay : Layout) where
             hands = λ k h. omega (arith, totals (λ u. in_hand k h u.inner.hand), o.1.hands k h);
             once = λ k h. omega (arith, makes k h, o.1.once k h);
             mades = λ k h l. omega (arith, makes k h, o.1.mades k h l);
-            fits = each-set _ views id w (λ j u ne there. o.1.fits j u there) (record {
-              holding = f.holding;
-              inside = f.inside;
-              knows = knows;
-              looks = lasting;
-              spent = f.spent;
-            });
+            fits = each-set _ views id w (λ j u ne there. o.1.fits j u there)
+                (search (rules, f, knows, lasting));
           },
         )
 
