@@ -3,6 +3,7 @@
 use Rattle.std.proofs.Common.{◌≡◌, ◌≢◌, ℕ, zero, suc, ◌+◌, ◌<◌, ◌≤◌, List, [], ◌∷◌, ◌++◌, set, refl, sym, ap, arith, inl, inr, get_or, replicate}
 use mathlib.Core.Option.{some, some-injective, some-ne-none}
 use Rattle.std.proofs.lemmas.Bool.Decides.{nat_tests}
+use Rattle.std.proofs.lemmas.Grind.{common_steps}
 use lib.ListN.{get_elem?}
 use Rattle.atomic_table.proofs.Lists.{at_set, at_snoc}
 use Rattle.gc_workers.specs.Counts.{total, only}
@@ -114,6 +115,4 @@ only_is x y more = grind (arith, nat_tests)
 
 -- a word of a list of zeros is 0, and past the end too
 pub zeros : (n i : ℕ) → get_or {A = ℕ} (replicate n 0) i 0 ≡ 0
-zeros zero i = refl
-zeros (suc n) zero = refl
-zeros (suc n) (suc i) = zeros n i
+zeros n i = grind (arith, common_steps)

@@ -6,12 +6,4 @@ pub returns : goal.returns
 returns g c =
     let is = c.loop-k.invariant in
     rw (← c.self.view_is, ← c.others.view_is) (unites _ _ _ c.loop-k.k is.count
-    (omega (
-      arith,
-      c.loop-k-test.false,
-      c.loop-k.auto.k-end,
-      c.min-k-end.ensures,
-      c.len.ensures,
-      c.len-2.ensures,
-    ))
-    is.done is.left)
+    (omega arith) is.done is.left)
