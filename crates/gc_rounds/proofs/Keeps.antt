@@ -23,17 +23,11 @@ use Rattle.gc_rounds.specs.declared.view.View.{View}
 use Rattle.gc_workers.proofs.Sums.{total-append, total-set, term_le, sole, each-set, only_same, only_other}
 use Rattle.gc_rounds.proofs.WordLemmas.{added, taken, opened, shut, shut_low, marked}
 
-pub inside_is : (r s : ℕ) → Inside r ≡ Inside s → r ≡ s
-inside_is r s e = cc
-
 -- who is counted in at one bank is not counted in at another
 counted_else : (b c : ℕ) (s : Position) → counted b s ≡ 1 → c ≢ b → counted c s ≡ 0
 counted_else b c Outside one ne = refl
 counted_else b c (Inside r) one ne = grind (arith, nat_tests)
 counted_else b c (Passing d) one ne = grind (arith, nat_tests)
-
-one_bank : (b : ℕ) → only 0 b + only 1 b ≤ 1
-one_bank b = grind (arith, nat_tests)
 
 counted_once : (b : ℕ) (s : Position) → b < 2 → counted b s ≤ counted 0 s + counted 1 s
 counted_once zero s l = omega arith
@@ -79,24 +73,16 @@ module _ {I : Type 0} (jobs seats : ℕ) where
   abbrev Rule : List ℕ → List (View I) → Type 0
   Rule words views = BanksSound jobs seats words views
 
-  -- a view of these banks stands for a seat
-  stands_for : (words : List ℕ) (views : List (View I)) (id : ℕ) (v : View I) → Rule words views
-      → get_elem? views id ≡ some v → v.all ≡ seats → 0 < v.seats
-  stands_for words views id v o at are = dite (ℕ_discrete v.seats 0)
-      (λ none_left. absurd (omega (arith, ((o.fits id v at).spent none_left).0, are, o.few.0)))
-      (λ ne. omega (arith, ne))
-
   -- a view that stands for all seats finds its own doing
   finds_own : (words : List ℕ) (views : List (View I)) (id r : ℕ) (v : View I) → Rule words views
       → get_elem? views id ≡ some v → v.all ≡ seats → r < jobs → v.seats ≡ v.all
       → IsOwn v r (get_or words (bank_of r) 0)
   finds_own words views id r v o at are near whole =
       let all : total (λ (u : View I). u.seats) views ≡ v.seats = omega (arith, o.dealt) in
-      let gifts = sole (λ (u : View I). times_given (bank_of r) u.steps) (λ u. u.seats) views id v
-      at all
-      (λ j u there none_left. ((o.fits j u there).spent none_left).1 (bank_of r)) in
-      let seals = sole (λ (u : View I). sealed_in r u.steps) (λ u. u.seats) views id v at all
-      (λ j u there none_left. ((o.fits j u there).spent none_left).2 r) in record {
+      let alone = λ (f : Step → ℕ). sole (λ (u : View I). total f u.steps) (λ u. u.seats) views id v
+      at all in
+      let gifts = alone (gives (bank_of r)) (λ j u there none. ((o.fits j u there).spent none).1 _) in
+      let seals = alone (seals_in r) (λ j u there none. ((o.fits j u there).spent none).2 r) in record {
         round = omega (arith, (o.banks (bank_of r) (bank_small r)).round);
         mark = λ is. omega (arith, o.sealed r near is);
       }
@@ -186,9 +172,8 @@ module _ {T I : Type 0} (jobs seats : ℕ) (about : T) (holds : T → List ℕ �
                 sees = λ r is. let t = sees r is in (rw (t.0, here) t.1, t.2);
                 few = few;
                 fair = omega (arith, total-append unfair v.steps (e ∷ []), (o.0.fits id v at).fair);
-                spent = λ none_left.
-                    let some_seat = stands_for jobs seats s.words s.views id v o.0 at are in
-                    absurd (omega arith);
+                spent = λ none_left. absurd (omega
+                    (arith, ((o.0.fits id v at).spent none_left).0, are, o.0.few.0));
               }),
           law about s.words s.views id b n v position e o.1 at small rest
               (omega (arith, turn.round)),
@@ -213,7 +198,7 @@ module _ {T I : Type 0} (jobs seats : ℕ) (about : T) (holds : T → List ℕ �
               (λ c ne. (stands_counted r n c ∙ only_other c b ne ∙ sym (outside c), refl))
               (λ k _. refl)
               (λ k is. let t = stands_inside r n k is in rw t.0 (refl, a.round ∙ t.1, near))
-              (omega (arith, stands_counted r n 0, stands_counted r n 1, one_bank b))
+              (grind (arith, nat_tests, stands_counted r n 0, stands_counted r n 1))
               refl (inr rest),
           ((refl, d.mark, refl), finds_own jobs seats s.words s.views id r v o.0 at are near),
         )

@@ -1,19 +1,19 @@
 -- Making, dealing and joining seats keep the rule.
 use Rattle.std.proofs.Common.{◌≡◌, ℕ, zero, suc, ◌+◌, ◌<◌, ◌≤◌, List, [], ◌∷◌, ◌++◌, length, set, get_or, sym, refl, ap, ◌∙◌, arith, replicate, get_or-set_other, get_or-set_same, length-set}
+use Rattle.std.proofs.lemmas.Grind.{common_steps}
 use mathlib.Core.Option.{some}
 use lib.ListN.{get_elem?}
 use Rattle.std.proofs.lemmas.List.{length-replicate}
 use Rattle.atomic_table.proofs.Lists.{set_else}
 use Rattle.gc_rounds.specs.Words.{count_of, mark_of, round_of, bank_of}
 use Rattle.gc_rounds.specs.Views.{counted, gives, times_given, unfair, seals_in, sealed_in}
-use Rattle.gc_rounds.specs.Banks.{BanksSound}
+use Rattle.gc_rounds.specs.Banks.{StandFits, BanksSound}
 use Rattle.gc_rounds.specs.Steps.{one_less, newcomer, merged, nobody, starting}
 use Rattle.gc_rounds.specs.Laws.{IsFresh}
 use Rattle.gc_rounds.specs.declared.view.Position.TheVariants.{Outside}
 use Rattle.gc_rounds.specs.declared.view.Step.{Step}
 use Rattle.gc_rounds.specs.declared.view.View.{View}
-use Rattle.gc_workers.proofs.Sums.{total-append, total-dealt, total-joined, each-one, each-dealt, each-joined}
-use Rattle.gc_workers.proofs.Sums.{zeros}
+use Rattle.gc_workers.proofs.Sums.{total-append, total-dealt, total-joined, each-one, each-dealt, each-joined, zeros}
 use Rattle.gc_rounds.proofs.Keeps.{bank_small}
 
 -- the words at the start
@@ -21,16 +21,13 @@ abbrev pub laid : ℕ → ℕ → List ℕ
 laid size second = set (replicate (size + 2) 0) 1 second
 
 laid_long : (size second : ℕ) → length (laid size second) ≡ 2 + size
-laid_long size second = length-set (replicate (size + 2) 0) 1 second
-    ∙ omega (arith, length-replicate {A = ℕ} (size + 2) 0)
+laid_long size second = grind (arith, common_steps)
 
 laid_first : (size second : ℕ) → get_or (laid size second) 0 0 ≡ 0
-laid_first size second =
-    get_or-set_other (replicate (size + 2) 0) 1 0 second 0 (λ e. omega arith) ∙ zeros (size + 2) 0
+laid_first size second = grind (arith, common_steps)
 
 laid_second : (size second : ℕ) → get_or (laid size second) 1 0 ≡ second
-laid_second size second = get_or-set_same (replicate (size + 2) 0) 1 second 0
-    (omega (arith, length-replicate {A = ℕ} (size + 2) 0))
+laid_second size second = grind (arith, common_steps)
 
 pub laid_fresh : (size second : ℕ) → round_of second ≡ 1 → IsFresh size (laid size second)
 laid_fresh size second is = record {
@@ -45,6 +42,16 @@ module _ {I : Type 0} (jobs seats : ℕ) where
   abbrev Rule : List ℕ → List (View I) → Type 0
   Rule words views = BanksSound jobs seats words views
 
+  -- a view that took no step yet, and is at no bank
+  fresh : (words : List ℕ) (v : View I) → v.position ≡ Outside → v.steps ≡ []
+      → (v.seats ≡ 0 → v.all ≡ 0) → StandFits jobs words v
+  fresh words v out none spent = record {
+    sees = λ r is. absurd (cc);
+    few = rw out (omega arith);
+    fair = rw none refl;
+    spent = λ z. (spent z, λ b. rw none refl, λ r. rw none refl);
+  }
+
   pub opens : (size second : ℕ) (inner : I) → round_of second ≡ 1 → count_of second ≡ 0
       → mark_of second < 2 → (1 < jobs → mark_of second ≡ 0) → 0 < seats → seats ≤ 64
       → Rule (laid size second) (starting jobs seats inner ∷ [])
@@ -56,12 +63,8 @@ module _ {I : Type 0} (jobs seats : ℕ) where
     early = λ r before. refl;
     dealt = omega arith;
     few = (some_seat, small);
-    fits = each-one _ (starting jobs seats inner) (record {
-      sees = λ r is. absurd (cc);
-      few = omega arith;
-      fair = refl;
-      spent = λ none_left. absurd (omega (arith, none_left, some_seat));
-    });
+    fits = each-one _ (starting jobs seats inner)
+        (fresh (laid size second) _ refl refl (λ none_left. absurd (omega arith)));
   }
     where
       -- a bank's first round is its number, and it is open where there is such a job
@@ -97,12 +100,7 @@ module _ {I : Type 0} (jobs seats : ℕ) where
               fair = f.fair;
               spent = λ none_left. absurd (omega arith);
             })
-            (record {
-              sees = λ r is. absurd (cc);
-              few = omega arith;
-              fair = refl;
-              spent = λ none_left. absurd (omega arith);
-            });
+            (fresh words other refl refl (λ none_left. absurd (omega arith)));
       }
 
   pub joins : (words : List ℕ) (views : List (View I)) (id other : ℕ) (v w : View I)
@@ -136,10 +134,5 @@ module _ {I : Type 0} (jobs seats : ℕ) where
                 λ r. omega (arith, joined (seals_in r), p.2 r, q.2 r),
               );
             })
-            (record {
-              sees = λ r is. absurd (cc);
-              few = omega arith;
-              fair = refl;
-              spent = λ none. (refl, λ b. refl, λ r. refl);
-            });
+            (fresh words none_left refl refl (λ none. refl));
       }
