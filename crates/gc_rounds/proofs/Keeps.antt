@@ -7,12 +7,12 @@ use native.Mathlib.Decide.{ℕ_discrete}
 use mathlib.Core.Option.{none, some}
 use lib.ListN.{get_elem?}
 use prog.Atomic.{either}
-use Rattle.atomic_table.specs.Table.{State, Me, step, keeps, stepped, Allows}
+use Rattle.atomic_table.specs.Table.{State, Me, Act, Valid, carried_after, step, keeps, stepped, Allows}
 use Rattle.gc_workers.specs.Counts.{total, only}
 use Rattle.gc_rounds.specs.Words.{count_of, mark_of, round_of, bank_of, open_word, shut_word}
 use Rattle.gc_rounds.specs.Views.{counted, gives, times_given, unfair, seals_in, sealed_in}
 use Rattle.gc_rounds.specs.Banks.{StandFits, BanksSound}
-use Rattle.gc_rounds.specs.Steps.{recorded, position_after, entered, left, sealed, IsOwn}
+use Rattle.gc_rounds.specs.Steps.{recorded, viewed, position_after, entered, left, sealed, IsOwn}
 use Rattle.gc_rounds.specs.Steps as bank_steps
 use Rattle.gc_rounds.specs.Laws.{Moves}
 use Rattle.gc_rounds.specs.declared.view.Position.{Position}
@@ -147,7 +147,7 @@ module _ {T I : Type 0} (jobs seats : ℕ) (about : T) (holds : T → List ℕ �
     abbrev Holds : State S (View I) → Type 0
     Holds s = BanksSound jobs seats s.words s.views × holds about s.words s.views
 
-    -- a step that changes the word of bank b alone
+    -- a step that changes the word of bank b alone, and keeps every slot
     steps_on : (s : State S (View I)) (b n : ℕ) (position : Position) (e : Step) → Holds s
         → get_elem? s.views id ≡ some me.0 → b < 2
         → Turn b (get_or s.words b 0) n me.0.position position e
@@ -156,27 +156,35 @@ module _ {T I : Type 0} (jobs seats : ℕ) (about : T) (holds : T → List ℕ �
         → ((r : ℕ) → position ≡ Inside r → (bank_of r ≡ b) × (round_of n ≡ r) × (r < jobs))
         → counted 0 position + counted 1 position ≤ me.0.seats → unfair e ≡ 0
         → (position ≡ me.0.position) ⊎ idle me.0.inner
-        → Holds (stepped s b n id me.1 (recorded me.0 position e) keeps)
+        → (w : View I) × (a : Act S) × Valid s.homes me.1 a
+        × Holds (stepped s b n id me.1 w a)
+        × viewed me (get_or s.words b 0) (w, carried_after me.1 a) (recorded me.0 position e)
     steps_on s b n position e o at small turn others no_seal sees few fair rest =
         let v = me.0 in let now = set s.words b n in
         let here : get_or now b 0 ≡ n = get_or-set_same s.words b n 0 (omega (arith, o.0.wide)) in (
-          turned jobs seats s.words now s.views id v (recorded v position e) e o.0 at
-              (omega (arith, o.0.wide, length-set s.words b n))
-              (λ c l. dite (ℕ_discrete c b) (λ is. rw (is, here) turn)
-              (λ ne. rw (get_or-set_other s.words b c n 0 ne) (steady c (get_or s.words c 0)
-              (get_or s.words c 0) v.position position e (o.0.banks c l).mark refl refl
-              (omega (arith, (others c ne).0)) (others c ne).1
-              (λ r at_c. no_seal r (λ at_b. ne (sym at_c ∙ at_b))))))
-              refl refl
-              (record {
-                sees = λ r is. let t = sees r is in (rw (t.0, here) t.1, t.2);
-                few = few;
-                fair = omega (arith, total-append unfair v.steps (e ∷ []), (o.0.fits id v at).fair);
-                spent = λ none_left. absurd (omega
-                    (arith, ((o.0.fits id v at).spent none_left).0, are, o.0.few.0));
-              }),
-          law about s.words s.views id b n v position e o.1 at small rest
-              (omega (arith, turn.round)),
+          recorded v position e,
+          keeps,
+          tt,
+          (
+            turned jobs seats s.words now s.views id v (recorded v position e) e o.0 at
+                (omega (arith, o.0.wide, length-set s.words b n))
+                (λ c l. dite (ℕ_discrete c b) (λ is. rw (is, here) turn)
+                (λ ne. rw (get_or-set_other s.words b c n 0 ne) (steady c (get_or s.words c 0)
+                (get_or s.words c 0) v.position position e (o.0.banks c l).mark refl refl
+                (omega (arith, (others c ne).0)) (others c ne).1
+                (λ r at_c. no_seal r (λ at_b. ne (sym at_c ∙ at_b))))))
+                refl refl
+                (record {
+                  sees = λ r is. let t = sees r is in (rw (t.0, here) t.1, t.2);
+                  few = few;
+                  fair = omega (arith, total-append unfair v.steps (e ∷ []), (o.0.fits id v at).fair);
+                  spent = λ none_left. absurd (omega
+                      (arith, ((o.0.fits id v at).spent none_left).0, are, o.0.few.0));
+                }),
+            law about s.words s.views id b n v position e o.1 at small rest
+                (omega (arith, turn.round)),
+          ),
+          (refl, (o.0.banks b small).mark, refl),
         )
 
     pub counts_in : (r : ℕ) → me.0.position ≡ Outside → 0 < me.0.seats → idle me.0.inner → r < jobs
@@ -187,21 +195,17 @@ module _ {T I : Type 0} (jobs seats : ℕ) (about : T) (holds : T → List ℕ �
         let position = position_after r n in let d = o.0.banks b (bank_small r) in
         let few = counts_few jobs seats s.words s.views b o.0 (bank_small r) in
         let a = added n small (omega arith) in
-        let outside : (c : ℕ) → counted c v.position ≡ 0 = λ c. ap (counted c) out in (
-          recorded v position (Enter b n),
-          keeps,
-          tt,
-          steps_on s b ((n + 1) % 2 ^ 64) position (Enter b n) o at (bank_small r)
-              (steady b n ((n + 1) % 2 ^ 64) v.position position (Enter b n) d.mark a.mark a.round
-              (omega (arith, a.count, stands_counted r n b, only_same, outside b))
-              refl (λ k _. refl))
-              (λ c ne. (stands_counted r n c ∙ only_other c b ne ∙ sym (outside c), refl))
-              (λ k _. refl)
-              (λ k is. let t = stands_inside r n k is in rw t.0 (refl, a.round ∙ t.1, near))
-              (grind (arith, nat_tests, stands_counted r n 0, stands_counted r n 1))
-              refl (inr rest),
-          ((refl, d.mark, refl), finds_own jobs seats s.words s.views id r v o.0 at are near),
-        )
+        let outside : (c : ℕ) → counted c v.position ≡ 0 = λ c. ap (counted c) out in
+        let t = steps_on s b ((n + 1) % 2 ^ 64) position (Enter b n) o at (bank_small r)
+        (steady b n ((n + 1) % 2 ^ 64) v.position position (Enter b n) d.mark a.mark a.round
+        (omega (arith, a.count, stands_counted r n b, only_same, outside b))
+        refl (λ k _. refl))
+        (λ c ne. (stands_counted r n c ∙ only_other c b ne ∙ sym (outside c), refl))
+        (λ k _. refl)
+        (λ k is. let t = stands_inside r n k is in rw t.0 (refl, a.round ∙ t.1, near))
+        (grind (arith, nat_tests, stands_counted r n 0, stands_counted r n 1))
+        refl (inr rest) in
+        (t.0, t.1, t.2, t.3, (t.4, finds_own jobs seats s.words s.views id r v o.0 at are near))
 
     pub counts_out : (b : ℕ) → b < 2 → counted b me.0.position ≡ 1 → idle me.0.inner
         → Allows Holds slots id me b (λ n. (n + (2 ^ 64 - 1)) % 2 ^ 64)
@@ -210,42 +214,32 @@ module _ {T I : Type 0} (jobs seats : ℕ) (about : T) (holds : T → List ℕ �
         let v = me.0 in let n : ℕ = get_or s.words b 0 in let d = o.0.banks b two in
         let some_in : 0 < count_of n =
         omega (arith, d.count, term_le (λ (x : View I). counted b x.position) s.views id v at) in
-        let after : ℕ = (n + (2 ^ 64 - 1)) % 2 ^ 64 in let a = taken n small some_in in (
-          recorded v Outside (Leave b n),
-          keeps,
-          tt,
-          steps_on s b after Outside (Leave b n) o at two
-              (steady b n after v.position Outside (Leave b n) d.mark a.mark a.round
-              (omega (arith, a.count, inside, some_in)) refl (λ k _. refl))
-              (λ c ne. (sym (counted_else b c v.position inside ne), refl)) (λ k _. refl)
-              (λ k is. absurd (cc)) (omega arith) refl (inr rest),
-          (refl, d.mark, refl),
-        )
+        let after : ℕ = (n + (2 ^ 64 - 1)) % 2 ^ 64 in let a = taken n small some_in in
+        steps_on s b after Outside (Leave b n) o at two
+        (steady b n after v.position Outside (Leave b n) d.mark a.mark a.round
+        (omega (arith, a.count, inside, some_in)) refl (λ k _. refl))
+        (λ c ne. (sym (counted_else b c v.position inside ne), refl)) (λ k _. refl)
+        (λ k is. absurd (cc)) (omega arith) refl (inr rest)
 
     pub seals : (r : ℕ) → me.0.position ≡ Inside r → Allows Holds slots id me (bank_of r)
         (λ n. bit_or n 65536) (sealed (step slots (bank_of r) 65536 0 none) me)
     seals r inside s o wide at small =
         let v = me.0 in let b : ℕ = bank_of r in let n : ℕ = get_or s.words b 0 in
         let d = o.0.banks b (bank_small r) in let f = o.0.fits id v at in
-        let a = marked n d.mark in let g = f.sees r inside in (
-          recorded v v.position (Seal b n),
-          keeps,
-          tt,
-          steps_on s b (bit_or n 65536) v.position (Seal b n) o at (bank_small r)
-              (record {
-                mark = omega (arith, a.mark);
-                count = omega (arith, a.count);
-                round = omega (arith, a.round);
-                rest = inl a.round;
-                here = λ k t at_b is was early. omega (arith, a.mark, a.round, only_same);
-                later = λ k at_b before. omega (arith, a.round, only_other);
-              })
-              (λ c ne. (refl, refl))
-              (λ k ne. only_other k (round_of n) (λ e. ne (omega (arith, e, d.round))))
-              (λ k is. let same : k ≡ r = cc in rw same (refl, a.round ∙ g.0, g.1))
-              f.few refl (inl refl),
-          (refl, d.mark, refl),
-        )
+        let a = marked n d.mark in let g = f.sees r inside in
+        steps_on s b (bit_or n 65536) v.position (Seal b n) o at (bank_small r)
+        (record {
+          mark = omega (arith, a.mark);
+          count = omega (arith, a.count);
+          round = omega (arith, a.round);
+          rest = inl a.round;
+          here = λ k t at_b is was early. omega (arith, a.mark, a.round, only_same);
+          later = λ k at_b before. omega (arith, a.round, only_other);
+        })
+        (λ c ne. (refl, refl))
+        (λ k ne. only_other k (round_of n) (λ e. ne (omega (arith, e, d.round))))
+        (λ k is. let same : k ≡ r = cc in rw same (refl, a.round ∙ g.0, g.1))
+        f.few refl (inl refl)
 
     pub gives_on : (r : ℕ) → me.0.position ≡ Outside → Allows Holds slots id me (bank_of r)
         (λ n. either (eqb n (shut_word r)) (open_word (r + 2)) n)
@@ -255,33 +249,23 @@ module _ {T I : Type 0} (jobs seats : ℕ) (about : T) (holds : T → List ℕ �
         let d = o.0.banks b (bank_small r) in let f = o.0.fits id v at in
         dite (ℕ_discrete n (shut_word r))
         (λ is. let p = shut r in let q = opened (r + 2) in rw (eq-eqb n (shut_word r) is) (
-          recorded v v.position (Reopen b n true),
-          keeps,
-          tt,
-          steps_on s b (open_word (r + 2)) v.position (Reopen b n true) o at (bank_small r)
-              (record {
-                mark = omega (arith, q.mark);
-                count = omega (arith, q.count, p.count, ap count_of is);
-                round = omega (arith, q.round, p.round, ap round_of is, only_same);
-                rest = inr (ap count_of is ∙ p.count);
-                here = λ k t at_b is' was early.
-                    omega (arith, q.mark, early (omega (arith, q.round, p.round, ap round_of is)));
-                later = λ k at_b before. refl;
-              })
-              (λ c ne. (refl, only_other c b ne)) (λ k _. refl) (λ k is'. absurd (cc)) f.few
-              (omega (arith, shut_low r, ap (λ x. x % 4294967296) is, only_same)) (inl refl),
-          (refl, d.mark, refl),
-        ))
+        steps_on s b (open_word (r + 2)) v.position (Reopen b n true) o at (bank_small r)
+        (record {
+          mark = omega (arith, q.mark);
+          count = omega (arith, q.count, p.count, ap count_of is);
+          round = omega (arith, q.round, p.round, ap round_of is, only_same);
+          rest = inr (ap count_of is ∙ p.count);
+          here = λ k t at_b is' was early.
+              omega (arith, q.mark, early (omega (arith, q.round, p.round, ap round_of is)));
+          later = λ k at_b before. refl;
+        })
+        (λ c ne. (refl, only_other c b ne)) (λ k _. refl) (λ k is'. absurd (cc)) f.few
+        (omega (arith, shut_low r, ap (λ x. x % 4294967296) is, only_same)) (inl refl)))
         (λ ne. rw (ne_eqb n (shut_word r) ne) (
-          recorded v v.position (Reopen b n false),
-          keeps,
-          tt,
-          steps_on s b n v.position (Reopen b n false) o at (bank_small r)
-              (steady b n n v.position v.position (Reopen b n false) d.mark refl refl refl refl
-              (λ k _. refl)) (λ c ne'. (refl, refl)) (λ k _. refl) (λ k is'. absurd (cc)) f.few
-              refl (inl refl),
-          (refl, d.mark, refl),
-        ))
+        steps_on s b n v.position (Reopen b n false) o at (bank_small r)
+        (steady b n n v.position v.position (Reopen b n false) d.mark refl refl refl refl
+        (λ k _. refl)) (λ c ne'. (refl, refl)) (λ k _. refl) (λ k is'. absurd (cc)) f.few
+        refl (inl refl)))
 
 -- a step on another word than the banks', by a seat that stays where it is
 pub step_on_another_word : {I : Type 0} (jobs seats : ℕ) (before now : List ℕ)
