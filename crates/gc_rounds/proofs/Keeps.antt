@@ -10,7 +10,7 @@ use prog.Atomic.{either}
 use Rattle.atomic_table.specs.Table.{State, Me, Act, Valid, carried_after, step, keeps, stepped, Allows}
 use Rattle.gc_workers.specs.Counts.{total, only}
 use Rattle.gc_rounds.specs.Words.{count_of, mark_of, round_of, bank_of, open_word, shut_word}
-use Rattle.gc_rounds.specs.Views.{counted, gives, times_given, unfair, seals_in, sealed_in}
+use Rattle.gc_rounds.specs.Views.{counted, gives, unfair, seals_in}
 use Rattle.gc_rounds.specs.Banks.{StandFits, BanksSound}
 use Rattle.gc_rounds.specs.Steps.{recorded, viewed, position_after, entered, left, sealed, IsOwn}
 use Rattle.gc_rounds.specs.Steps as bank_steps
@@ -81,8 +81,8 @@ module _ {I : Type 0} (jobs seats : ℕ) where
       let all : total (λ (u : View I). u.seats) views ≡ v.seats = omega (arith, o.dealt) in
       let alone = λ (f : Step → ℕ). sole (λ (u : View I). total f u.steps) (λ u. u.seats) views id v
       at all in
-      let gifts = alone (gives (bank_of r)) (λ j u there none. ((o.fits j u there).spent none).1 _) in
-      let seals = alone (seals_in r) (λ j u there none. ((o.fits j u there).spent none).2 r) in record {
+      let gifts = alone (gives (bank_of r)) (λ j u there z. ((o.fits j u there).spent z).1 _) in
+      let seals = alone (seals_in r) (λ j u there z. ((o.fits j u there).spent z).2 r) in record {
         round = omega (arith, (o.banks (bank_of r) (bank_small r)).round);
         mark = λ is. omega (arith, o.sealed r near is);
       }
@@ -177,7 +177,8 @@ module _ {T I : Type 0} (jobs seats : ℕ) (about : T) (holds : T → List ℕ �
                 (record {
                   sees = λ r is. let t = sees r is in (rw (t.0, here) t.1, t.2);
                   few = few;
-                  fair = omega (arith, total-append unfair v.steps (e ∷ []), (o.0.fits id v at).fair);
+                  fair = omega
+                      (arith, total-append unfair v.steps (e ∷ []), (o.0.fits id v at).fair);
                   spent = λ none_left. absurd (omega
                       (arith, ((o.0.fits id v at).spent none_left).0, are, o.0.few.0));
                 }),
