@@ -21,7 +21,7 @@ use Rattle.gc_rounds.specs.declared.view.Step.{Step}
 use Rattle.gc_rounds.specs.declared.view.Step.TheVariants.{Enter, Leave, Seal, Reopen}
 use Rattle.gc_rounds.specs.declared.view.View.{View}
 use Rattle.gc_workers.proofs.Sums.{total-append, total-set, term_le, sole, each-set, only_same, only_other}
-use Rattle.gc_rounds.proofs.WordLemmas.{added, taken, opened, shut, shut_low, marked}
+use Rattle.gc_rounds.proofs.WordLemmas.{added, taken, opened, shut, marked}
 
 -- who is counted in at one bank is not counted in at another
 counted_else : (b c : ℕ) (s : Position) → counted b s ≡ 1 → c ≢ b → counted c s ≡ 0
@@ -261,7 +261,7 @@ module _ {T I : Type 0} (jobs seats : ℕ) (about : T) (holds : T → List ℕ �
           later = λ k at_b before. refl;
         })
         (λ c ne. (refl, only_other c b ne)) (λ k _. refl) (λ k is'. absurd (cc)) f.few
-        (omega (arith, shut_low r, ap (λ x. x % 4294967296) is, only_same)) (inl refl)))
+        (omega (arith, ap (λ x. x % 4294967296) is, only_same)) (inl refl)))
         (λ ne. rw (ne_eqb n (shut_word r) ne) (
         steps_on s b n v.position (Reopen b n false) o at (bank_small r)
         (steady b n n v.position v.position (Reopen b n false) d.mark refl refl refl refl

@@ -19,20 +19,16 @@ use Rattle.gc_rounds.proofs.Keeps.{bank_small}
 abbrev pub laid : ℕ → ℕ → List ℕ
 laid size second = set (replicate (size + 2) 0) 1 second
 
-laid_long : (size second : ℕ) → length (laid size second) ≡ 2 + size
-laid_long size second = grind (arith, common_steps)
-
-laid_first : (size second : ℕ) → get_or (laid size second) 0 0 ≡ 0
-laid_first size second = grind (arith, common_steps)
-
-laid_second : (size second : ℕ) → get_or (laid size second) 1 0 ≡ second
-laid_second size second = grind (arith, common_steps)
+laid_words : (size second : ℕ) → (length (laid size second) ≡ 2 + size)
+    × (get_or (laid size second) 0 0 ≡ 0) × (get_or (laid size second) 1 0 ≡ second)
+laid_words size second =
+    (grind (arith, common_steps), grind (arith, common_steps), grind (arith, common_steps))
 
 pub laid_fresh : (size second : ℕ) → round_of second ≡ 1 → IsFresh size (laid size second)
-laid_fresh size second is = record {
-  long = laid_long size second;
-  first = omega (arith, ap round_of (laid_first size second));
-  second = ap round_of (laid_second size second) ∙ is;
+laid_fresh size second is = let words = laid_words size second in record {
+  long = words.0;
+  first = omega (arith, ap round_of words.1);
+  second = ap round_of words.2 ∙ is;
   others = λ i. get_or-set_other (replicate (size + 2) 0) 1 (2 + i) second 0 (λ e. omega arith)
       ∙ zeros (size + 2) (2 + i);
 }
@@ -55,7 +51,7 @@ module _ {I : Type 0} (jobs seats : ℕ) where
       → mark_of second < 2 → (1 < jobs → mark_of second ≡ 0) → 0 < seats → seats ≤ 64
       → Rule (laid size second) (starting jobs seats inner ∷ [])
   opens size second inner round count mark unsealed some_seat small = record {
-    wide = omega (arith, laid_long size second);
+    wide = omega (arith, (laid_words size second).0);
     banks = λ b l. let t = bank b l in
         record { mark = t.1; count = sym t.2; round = omega (arith, t.0) };
     sealed = λ r near is. let t = bank (bank_of r) (bank_small r) in t.3 (omega (arith, t.0));
@@ -72,8 +68,8 @@ module _ {I : Type 0} (jobs seats : ℕ) where
           × (count_of (get_or (laid size second) b 0) ≡ 0)
           × (b < jobs → mark_of (get_or (laid size second) b 0) ≡ 0)
       bank zero l =
-          rw (laid_first size second) (omega arith, omega arith, omega arith, λ _. omega arith)
-      bank (suc zero) l = rw (laid_second size second) (round, mark, count, unsealed)
+          rw (laid_words size second).1 (omega arith, omega arith, omega arith, λ _. omega arith)
+      bank (suc zero) l = rw (laid_words size second).2 (round, mark, count, unsealed)
       bank (suc (suc b)) l = absurd (omega arith)
 
   pub deals : (words : List ℕ) (views : List (View I)) (id : ℕ) (v : View I) (inner : I)

@@ -33,10 +33,6 @@ opened r = parts (open_word r) 0 0 r (omega arith) (omega arith) (omega arith)
 pub shut : (r : ℕ) → Parts (shut_word r) 0 1 r
 shut r = parts (shut_word r) 0 1 r (omega arith) (omega arith) (omega arith)
 
--- found sealed with nobody inside
-pub shut_low : (r : ℕ) → shut_word r % 4294967296 ≡ 65536
-shut_low r = omega arith
-
 pub marked : (n : ℕ) → mark_of n < 2 → Parts (bit_or n 65536) (count_of n) 1 (round_of n)
 marked n small = parts (bit_or n 65536) (count_of n) 1 (round_of n) (omega arith) (omega arith)
     (omega (arith, whole n, or_add_and n 65536, and_pow n 16))
