@@ -1,12 +1,8 @@
 -- The active labels of a job meet the equations of the gates, and their halves are those of the words.
-use Rattle.std.proofs.Common.{Bool, Result, ◌≡◌, ℕ, zero, suc, List, [], ◌∷◌, slice_get, get_or, Some, refl, sym, ◌∙◌}
+use Rattle.gc_steps.proofs.Names.{Bool, Result, ◌≡◌, ℕ, zero, suc, List, [], ◌∷◌, slice_get, get_or, Some, refl, sym, ◌∙◌, IsLawful, and_number, first_wire, second_wire, JobParts, IsWhole, labels_of, IsDecodingOf, IsEvaluated, active, set_of, active_from}
 use Rattle.gc_netlist.specs.declared.gate.Gate.{Gate}
-use Rattle.gc_netlist.specs.Circuit.{IsLawful, and_number, first_wire, second_wire}
-use Rattle.gc_job.specs.Job.{JobParts, IsWhole}
 use Rattle.gc_job.specs.declared.fault.EvalFault.{EvalFault}
-use Rattle.gc_job.specs.Evaluate.{labels_of, IsDecodingOf, IsEvaluated}
 use Rattle.gc_netlist.specs.Solution.{on_outputs}
-use Rattle.gc_job.specs.ActiveLabels.{active, set_of, active_from}
 use Rattle.gc_steps.specs.Jobs.{IsRightHalf}
 use mathlib.Core.Option.{some, some-injective, some-ne-none}
 use lib.ListN.{get_elem?}

@@ -1,5 +1,5 @@
 -- Calls one after another, inside a round.
-use Rattle.gc_steps.proofs.Names.{◌≡◌, ◌≢◌, ℕ, ◌+◌, ◌*◌, ◌%◌, ◌<◌, ◌≤◌, ◌⊎◌, List, [], ◌∷◌, ◌++◌, refl, ap, ◌∙◌, arith, rules, append_assoc, length-append, sym, slice_get, Some, inl, inr, ⊎_elim, IsLawful, input_wires, first_wire, second_wire, only, total-append, only_same, only_other, Key, is_pair, pairs, IsGatePlace, JobParts, labels_of, input_not_set, made_now, made_after, IsAlone, SetsMade, ReadsMade, FirstLacking, AnswersAlone, sighting, sightings, Seen, Ran, Got, Lacks, Says, Answers, AnswersTwo, AnswersFour, IsPrepared, IsMadeNow, after_taken, active, set_of}
+use Rattle.gc_steps.proofs.Names.{◌≡◌, ◌≢◌, ℕ, ◌+◌, ◌*◌, ◌%◌, ◌<◌, ◌≤◌, ◌⊎◌, List, [], ◌∷◌, ◌++◌, refl, ap, ◌∙◌, arith, rules, append_assoc, length-append, sym, slice_get, Some, eq-eqb, ne_eqb, inl, inr, ⊎_elim, IsLawful, input_wires, first_wire, second_wire, only, total-append, only_same, only_other, Key, is_pair, pairs, IsGatePlace, JobParts, labels_of, input_not_set, made_now, made_after, IsAlone, SetsMade, ReadsMade, FirstLacking, AnswersAlone, sighting, sightings, Seen, Ran, Got, Lacks, Says, Answers, AnswersTwo, AnswersFour, IsPrepared, IsMadeNow, after_taken, active, set_of}
 use Rattle.atomic_table.specs.Seated.{TableId}
 use Rattle.atomic_table.specs.declared.shared.Seat.{Seat}
 use Rattle.gc_netlist.specs.declared.gate.Gate.{Gate}
@@ -12,7 +12,7 @@ use Rattle.gc_rounds.specs.declared.view.Step.TheVariants.{Store, Claim}
 use Rattle.gc_gates.specs.Layout.{Layout}
 use Rattle.gc_gates.specs.Steps.{after_claim, after_stored, after_done}
 use Rattle.gc_gates.proofs.PairLemmas.{pair_same}
-use Rattle.std.proofs.Common.{eq-eqb, ne_eqb}
+use Rattle.std.proofs.lemmas.Bool.Decides.{nat_tests}
 use Rattle.gc_gates.specs.declared.view.Hand.TheVariants.{Empty}
 use Rattle.gc_steps.specs.declared.answer.Answer.{Answer}
 use Rattle.gc_steps.specs.declared.answer.Answer.TheVariants.{Made, Done, Taken, NotYet}
@@ -62,22 +62,12 @@ longer le p = search (rules, p)
 pub saw_step : (steps : List Step) (s : Step) (word found : ℕ)
     → sighting word found s ≡ only word word * only found found
     → sightings word found steps < sightings word found (steps ++ s ∷ [])
-saw_step steps s word found is = omega (
-  arith,
-  total-append (sighting word found) steps (s ∷ []),
-  is,
-  ap (λ n. n * only found found) (only_same word word refl),
-  only_same found found refl,
-)
+saw_step steps s word found is =
+    rw (total-append (sighting word found) steps (s ∷ []), is) (grind (arith, nat_tests))
 
 -- what is not found done was not known
 pub unknown : (n found two : ℕ) → (0 < n → found ≡ two) → found ≢ two → n ≡ 0
 unknown n found two known ne = grind arith
-
--- what is found and is not 2 of the round comes before it
-pub undone : (r found : ℕ) → found % ROUND < 3 → found ≢ stamp r DONE → round_of found ≤ r
-    → found < stamp r DONE
-undone r found small ne le = omega arith
 
 -- What is said of a call is said of a longer one, which has it as a part.
 pub lacks_within : {J : Type 0} {lay : Layout} {a b c d : Seen J} {job : JobParts} {r w : ℕ}
@@ -85,34 +75,20 @@ pub lacks_within : {J : Type 0} {lay : Layout} {a b c d : Seen J} {job : JobPart
     → Lacks lay job r w b c → Lacks lay job r w a d
 lacks_within {lay = lay} {r = r} p q l = record {
   no_input = l.no_input;
-  unknown = λ h set. let t = l.unknown h set in (
-    omega (arith, p.known r h, t.0),
-    (
-      t.1.0,
-      t.1.1,
-      omega (arith, t.1.2, p.sighted (lay.at r h) t.1.0, q.sighted (lay.at r h) t.1.0),
-    ),
-  );
+  unknown = λ h set. let t = l.unknown h set in let found = t.1.0 in
+      let before = p.sighted (lay.at r h) found in let after = q.sighted (lay.at r h) found in
+      (omega (arith, p.known r h, t.0), (found, t.1.1, omega (arith, t.1.2)));
 }
 
 pub says_within : {J : Type 0} {a b c d : Seen J} (lay : Layout) (job : JobParts) (r g : ℕ)
-    (answer : Answer) → Grown a b
-    → Grown c d → Says lay job r g b c answer → Says lay job r g a d answer
+    (answer : Answer) → Grown a b → Grown c d → Says lay job r g b c answer
+    → Says lay job r g a d answer
 says_within lay job r g (Made label) p q h =
     (h.0, omega (arith, q.known r g), omega (arith, p.known r g))
 says_within lay job r g (Done label) p q h = (h.0, omega (arith, q.known r g))
-says_within lay job r g Taken p q h =
-    let word = lay.at r g in
-    let held = stamp r IN_HAND in
+says_within lay job r g Taken p q h = let word = lay.at r g in let held = stamp r IN_HAND in
     (omega (arith, p.known r g), omega (arith, p.sighted word held, q.sighted word held))
 says_within lay job r g (NotYet w) p q h = (omega (arith, p.known r g), h.1, lacks_within p q h.2)
-
--- a result after steps that made nothing
-pub answers_later : {J : Type 0} {a b c : Seen J} {m n : ℕ} (lay : Layout) (job : JobParts)
-    (r g : ℕ) (x : Answer)
-    → Ran a b a.inner.made m → Answers lay job r g n b c x → Answers lay job r g (m + n) a c x
-answers_later lay job r g x p h =
-    (says_within lay job r g x (grown p) still h.0, rw p.made at (ran_then p h.1))
 
 -- a result that is not Made leaves the made list
 pub unmade : (r g : ℕ) (l : List (ℕ × ℕ)) (answer : Answer) → made_now answer ≡ 0
@@ -125,106 +101,99 @@ unmade r g l (NotYet w) e = refl
 -- a result for another gate leaves how often a gate is in the made list
 pub made_apart : (r g h : ℕ) (l : List (ℕ × ℕ)) (answer : Answer) → h ≢ g
     → pairs r h (made_after r g l answer) ≡ pairs r h l
-made_apart r g h l (Made label) apart = omega (
-  arith,
-  total-append (is_pair r h) l ((r, g) ∷ []),
-  ap (λ n. only r r * n) (only_other h g apart),
-)
+made_apart r g h l (Made label) apart =
+    rw (total-append (is_pair r h) l ((r, g) ∷ [])) (grind (arith, nat_tests))
 made_apart r g h l (Done label) apart = refl
 made_apart r g h l Taken apart = refl
 made_apart r g h l (NotYet w) apart = refl
 
--- two results, of which the second call began where the first ended
-pub two_made : {J : Type 0} {a b c : Seen J} {m n : ℕ} (lay : Layout) (job : JobParts) (r g h : ℕ)
-    (x y : Answer)
-    → Answers lay job r g m a b x → Answers lay job r h n b c y
-    → AnswersTwo lay job r g h (m + n) a c (x, y)
-two_made lay job r g h x y p q = (
-  says_within lay job r g x still (grown q.1) p.0,
-  says_within lay job r h y (grown p.1) still q.0,
-  rw p.1.made at (ran_then p.1 q.1),
-)
+module _ {J : Type 0} (lay : Layout) (job : JobParts) (r : ℕ) where
+  -- a result after steps that made nothing
+  pub answers_later : {a b c : Seen J} {m n : ℕ} (g : ℕ) (x : Answer) → Ran a b a.inner.made m
+      → Answers lay job r g n b c x → Answers lay job r g (m + n) a c x
+  answers_later g x p h =
+      (says_within lay job r g x (grown p) still h.0, rw p.made at (ran_then p h.1))
 
--- A result that is not Made is one after any more steps.
-pub answers_unmade : {J : Type 0} {a b : Seen J} {m n : ℕ} (lay : Layout) (job : JobParts) (r g : ℕ)
-    (x : Answer) → m ≤ n
-    → (made_now x ≡ 0) × Says lay job r g a b x → Ran a b a.inner.made m
-    → Answers lay job r g n a b x
-answers_unmade {a = a} lay job r g x le found p =
-    (found.1, rw (unmade r g a.inner.made x found.0) (longer le p))
-
--- two calls of seven steps, one after another
-both_looked : {J : Type 0} {a b c : Seen J} → Ran a b a.inner.made 7 → Ran b c b.inner.made 7
-    → Ran a c a.inner.made 14
-both_looked p q = rw p.made at (ran_then p q)
-
--- four results of one call: two, and then two,
-pub four_made : {J : Type 0} {u v w : Seen J} {m n most : ℕ} (lay : Layout) (job : JobParts)
-    (r a b c d : ℕ) (x y : Answer × Answer) → m + n ≤ most → AnswersTwo lay job r a b m u v x
-    → AnswersTwo lay job r c d n v w y
-    → AnswersFour lay job r a b c d most u w (x.0, x.1, y.0, y.1)
-four_made lay job r a b c d x y le p q = (
-  says_within lay job r a x.0 still (grown q.2) p.0,
-  says_within lay job r b x.1 still (grown q.2) p.1,
-  says_within lay job r c y.0 (grown p.2) still q.0,
-  says_within lay job r d y.1 (grown p.2) still q.1,
-  longer le (rw p.2.made at (ran_then p.2 q.2)),
-)
-
--- and all after steps that made nothing
-pub four_later : {J : Type 0} {u v w : Seen J} {m n most : ℕ} (lay : Layout) (job : JobParts)
-    (r a b c d : ℕ) (all : Answer × Answer × Answer × Answer) → m + n ≤ most
-    → Ran u v u.inner.made m → AnswersFour lay job r a b c d n v w all
-    → AnswersFour lay job r a b c d most u w all
-four_later lay job r a b c d all le p q = (
-  says_within lay job r a all.0 (grown p) still q.0,
-  says_within lay job r b all.1 (grown p) still q.1,
-  says_within lay job r c all.2 (grown p) still q.2,
-  says_within lay job r d all.3 (grown p) still q.3,
-  longer le (rw p.made at (ran_then p q.4)),
-)
-
--- Of two gates that were looked at, both were ready, one was, or none.
-module _ {J : Type 0} {a b c : Seen J} (lay : Layout) (job : JobParts) (r g h : ℕ) (x y : Answer)
-    (p : Ran a b a.inner.made 7)
-    (q : Ran b c b.inner.made 7) where
-  pub both_ready : (d : Seen J) → AnswersTwo lay job r g h 8 c d (x, y)
-      → AnswersTwo lay job r g h 22 a d (x, y)
-  both_ready d t = (
-    says_within lay job r g x (grown (both_looked p q)) still t.0,
-    says_within lay job r h y (grown (both_looked p q)) still t.1,
-    rw ((both_looked p q).made) at (ran_then (both_looked p q) t.2),
+  -- two results, of which the second call began where the first ended
+  pub two_made : {a b c : Seen J} {m n : ℕ} (g h : ℕ) (x y : Answer) → Answers lay job r g m a b x
+      → Answers lay job r h n b c y → AnswersTwo lay job r g h (m + n) a c (x, y)
+  two_made g h x y p q = (
+    says_within lay job r g x still (grown q.1) p.0,
+    says_within lay job r h y (grown p.1) still q.0,
+    rw p.1.made at (ran_then p.1 q.1),
   )
 
-  pub first_ready : (d : Seen J) → Answers lay job r g 4 c d x
-      → (made_now y ≡ 0) × Says lay job r h b c y
-      → AnswersTwo lay job r g h 22 a d (x, y)
-  first_ready d s e = (
-    says_within lay job r g x (grown (both_looked p q)) still s.0,
-    says_within lay job r h y (grown p) (grown s.1) e.1,
-    rw (unmade r h (made_after r g a.inner.made x) y e.0)
-        (longer (omega arith) (rw ((both_looked p q).made) at (ran_then (both_looked p q) s.1))),
+  -- A result that is not Made is one after any more steps.
+  pub answers_unmade : {a b : Seen J} {m n : ℕ} (g : ℕ) (x : Answer) → m ≤ n
+      → (made_now x ≡ 0) × Says lay job r g a b x → Ran a b a.inner.made m
+      → Answers lay job r g n a b x
+  answers_unmade {a = a} g x le found p =
+      (found.1, rw (unmade r g a.inner.made x found.0) (longer le p))
+
+  -- four results of one call: two, and then two,
+  pub four_made : {u v w : Seen J} {m n most : ℕ} (a b c d : ℕ) (x y : Answer × Answer)
+      → m + n ≤ most → AnswersTwo lay job r a b m u v x → AnswersTwo lay job r c d n v w y
+      → AnswersFour lay job r a b c d most u w (x.0, x.1, y.0, y.1)
+  four_made a b c d x y le p q = (
+    says_within lay job r a x.0 still (grown q.2) p.0,
+    says_within lay job r b x.1 still (grown q.2) p.1,
+    says_within lay job r c y.0 (grown p.2) still q.0,
+    says_within lay job r d y.1 (grown p.2) still q.1,
+    longer le (rw p.2.made at (ran_then p.2 q.2)),
   )
 
-  pub second_ready : (d : Seen J) → (made_now x ≡ 0) × Says lay job r g a b x
-      → Answers lay job r h 4 c d y
-      → AnswersTwo lay job r g h 22 a d (x, y)
-  second_ready d e t = (
-    says_within lay job r g x still (grown (ran_then q t.1)) e.1,
-    says_within lay job r h y (grown (both_looked p q)) still t.0,
-    rw (unmade r g a.inner.made x e.0)
-        (longer (omega arith) (rw ((both_looked p q).made) at (ran_then (both_looked p q) t.1))),
+  -- and all after steps that made nothing
+  pub four_later : {u v w : Seen J} {m n most : ℕ} (a b c d : ℕ)
+      (all : Answer × Answer × Answer × Answer) → m + n ≤ most → Ran u v u.inner.made m
+      → AnswersFour lay job r a b c d n v w all → AnswersFour lay job r a b c d most u w all
+  four_later a b c d all le p q = (
+    says_within lay job r a all.0 (grown p) still q.0,
+    says_within lay job r b all.1 (grown p) still q.1,
+    says_within lay job r c all.2 (grown p) still q.2,
+    says_within lay job r d all.3 (grown p) still q.3,
+    longer le (rw p.made at (ran_then p q.4)),
   )
 
-  pub none_ready : (made_now x ≡ 0) × Says lay job r g a b x
-      → (made_now y ≡ 0) × Says lay job r h b c y
-      → AnswersTwo lay job r g h 22 a c (x, y)
-  none_ready e f = (
-    says_within lay job r g x still (grown q) e.1,
-    says_within lay job r h y (grown p) still f.1,
-    rw (unmade r h (made_after r g a.inner.made x) y f.0, unmade r g a.inner.made x e.0)
-        (longer (omega arith) (both_looked p q)),
-  )
+  -- Of two gates that were looked at, both were ready, one was, or none.
+  module _ {a b c : Seen J} (g h : ℕ) (x y : Answer) (p : Ran a b a.inner.made 7)
+      (q : Ran b c b.inner.made 7) where
+    both : Ran a c a.inner.made 14
+    both = rw p.made at (ran_then p q)
+
+    pub both_ready : (d : Seen J) → AnswersTwo lay job r g h 8 c d (x, y)
+        → AnswersTwo lay job r g h 22 a d (x, y)
+    both_ready d t = (
+      says_within lay job r g x (grown both) still t.0,
+      says_within lay job r h y (grown both) still t.1,
+      rw both.made at (ran_then both t.2),
+    )
+
+    pub first_ready : (d : Seen J) → Answers lay job r g 4 c d x
+        → (made_now y ≡ 0) × Says lay job r h b c y → AnswersTwo lay job r g h 22 a d (x, y)
+    first_ready d s e = (
+      says_within lay job r g x (grown both) still s.0,
+      says_within lay job r h y (grown p) (grown s.1) e.1,
+      rw (unmade r h (made_after r g a.inner.made x) y e.0)
+          (longer (omega arith) (rw both.made at (ran_then both s.1))),
+    )
+
+    pub second_ready : (d : Seen J) → (made_now x ≡ 0) × Says lay job r g a b x
+        → Answers lay job r h 4 c d y → AnswersTwo lay job r g h 22 a d (x, y)
+    second_ready d e t = (
+      says_within lay job r g x still (grown (ran_then q t.1)) e.1,
+      says_within lay job r h y (grown both) still t.0,
+      rw (unmade r g a.inner.made x e.0)
+          (longer (omega arith) (rw both.made at (ran_then both t.1))),
+    )
+
+    pub none_ready : (made_now x ≡ 0) × Says lay job r g a b x
+        → (made_now y ≡ 0) × Says lay job r h b c y → AnswersTwo lay job r g h 22 a c (x, y)
+    none_ready e f = (
+      says_within lay job r g x still (grown q) e.1,
+      says_within lay job r h y (grown p) still f.1,
+      rw (unmade r h (made_after r g a.inner.made x) y f.0, unmade r g a.inner.made x e.0)
+          (longer (omega arith) both),
+    )
 
 -- what is ready stays ready
 pub ready_later : {J : Type 0} {a b : Seen J} {list : List (ℕ × ℕ)} {m : ℕ} {job : JobParts} {r : ℕ}
@@ -289,64 +258,33 @@ alone_made job r g a (Done label) now is = absurd now
 alone_made job r g a Taken now is = now
 alone_made job r g a (NotYet w) now is = absurd now
 
--- a gate is claimed, both its halves and its state are stored: four steps
-made_ran : {J : Type 0} (lay : Layout) (r g free i low j high : ℕ) (v : Seen J)
-    → v.inner.hand ≡ Empty
-    → Ran v (after_done lay (after_stored (after_stored (after_taken lay v r g free) r g 1 i low)
-    r g 2 j high) r g) (v.inner.made ++ (r, g) ∷ []) 4
-made_ran lay r g free i low j high v empty =
-    let one : Step = Claim (lay.at r g) free in
-    let two : Step = Store i low in
-    let three : Step = Store j high in
-    let four : Step = Store (lay.at r g) (stamp r DONE) in
-    record {
-      jobs = refl;
-      all = refl;
-      seats = refl;
-      position = refl;
-      about = refl;
-      hand = sym empty;
-      made = refl;
-      known = λ k h. omega arith;
-      looks = λ k h n. omega arith;
-      added = one ∷ two ∷ three ∷ four ∷ [];
-      short = omega arith;
-      steps = simp append_assoc;
-    }
-
--- A gate that wasn't known is taken in hand, and its right label published.
+-- A gate that wasn't known is taken in hand, and its right label published: four steps.
 pub made_answer : {J : Type 0} {a b c : Seen J} {label : ℕ} (free i low j high : ℕ) (lay : Layout)
     (job : JobParts) (r g : ℕ) → a.inner.hand ≡ Empty
     → (b ≡ after_taken lay a r g free) × (pairs r g a.inner.known ≡ 0)
     → c ≡ after_done lay (after_stored (after_stored b r g 1 i low) r g 2 j high) r g
     → label ≡ active job (set_of job g) → Answers lay job r g 4 a c (Made label)
-made_answer {a = a} free i low j high lay job r g empty taken put right = rw (put, taken.0) (
+made_answer free i low j high lay job r g empty taken put right = rw (put, taken.0) (
   (right, omega (arith, pair_same r g), taken.1),
-  made_ran lay r g free i low j high a empty,
+  record {
+    jobs = refl;
+    all = refl;
+    seats = refl;
+    position = refl;
+    about = refl;
+    hand = sym empty;
+    made = refl;
+    known = λ k h. omega arith;
+    looks = λ k h n. omega arith;
+    added = Claim (lay.at r g) free ∷ Store i low ∷ Store j high
+        ∷ Store (lay.at r g) (stamp r DONE) ∷ [];
+    short = omega arith;
+    steps = simp append_assoc;
+  },
 )
-
--- a claim that finds neither IN_HAND nor DONE in the round found the free word
-pub free_found : (r free found : ℕ) → (found ≡ free) ⊎ (stamp r FREE < found)
-    → found % ROUND < 3 → round_of found ≤ r → found ≢ stamp r DONE → found ≢ stamp r IN_HAND
-    → found ≡ free
-free_found r free found either small le not_done not_taken =
-    ⊎_elim (λ hit. hit) (λ more. absurd (omega (arith, not_done, not_taken))) either
 
 -- what is claimed at the free word that was looked at is taken
 pub claimed_free : {J : Type 0} (lay : Layout) (v : Seen J) (r g free found : ℕ) → found ≡ free
     → free ≤ stamp r FREE → after_claim lay v r g free found ≡ after_taken lay v r g free
 claimed_free lay v r g free found hit le =
     rw (eq-eqb found free hit, ne_eqb found (stamp r DONE) (λ two. omega arith)) (rw hit refl)
-
-module _ {J : Type 0} {v w : Seen J} (same : v ≡ w) where
-  pub jobs_same : v.jobs ≡ w.jobs
-  jobs_same = ap (λ (x : Seen J). x.jobs) same
-
-  pub all_same : v.all ≡ w.all
-  all_same = ap (λ (x : Seen J). x.all) same
-
-  pub job_same : v.inner.job ≡ w.inner.job
-  job_same = ap (λ (x : Seen J). x.inner.job) same
-
-  pub position_same : v.position ≡ w.position
-  position_same = ap (λ (x : Seen J). x.position) same

@@ -1,5 +1,5 @@
 use Rattle.gc_steps.proofs.Names.{arith, sym, ◌∙◌, refl, ◌<◌, only_other, set_once, set_within}
-use Rattle.gc_steps.proofs.RunLemmas.{got_input, unknown, undone, saw_step, still_in, jobs_same, all_same, job_same, position_same}
+use Rattle.gc_steps.proofs.RunLemmas.{got_input, unknown, saw_step, still_in}
 use Rattle.gc_steps.proofs.round.Round.label.Given.{Over}
 use Rattle.gc_steps.proofs.round.Round.label.Goals.{In-Some}
 use Rattle.gc_steps.proofs.round.Round.label.Goals as goal
@@ -38,11 +38,9 @@ load_state-requires g c = record {
 
 pub load_label-requires-clause-place : goal.load_label-requires-clause-place
 load_label-requires-clause-place g c =
-    let view = c.load_state.ensures.view in
-    record {
-      place = still_in c.requires.place.place c.load_state.ensures.same
-          (jobs_same view) (all_same view) (job_same view);
-      inside = position_same view ∙ c.requires.place.inside;
+    let view = c.load_state.ensures.view in let place = c.requires.place.place in record {
+      place = still_in place c.load_state.ensures.same (rw view) (rw view) (rw view);
+      inside = rw view c.requires.place.inside;
       exists = exists g (goal.at.load_label-requires-clause-place g c).In-Some;
     }
 
@@ -58,7 +56,7 @@ returns-else-load_state-stamped-clause-none g c =
         unknown _ _ _ finds.known not_two,
         (
           c.load_state.result,
-          undone _ _ finds.state not_two finds.round,
+          omega (arith, not_two, finds.state, finds.round),
           rw c.load_state.ensures.view (saw_step _ _ _ _ refl),
         ),
       );

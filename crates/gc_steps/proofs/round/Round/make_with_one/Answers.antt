@@ -2,14 +2,8 @@ use Rattle.std.proofs.Common.{◌∙◌}
 use Rattle.gc_steps.proofs.RunLemmas.{made_answer}
 use Rattle.gc_steps.proofs.round.Round.make_with_one.Goals as goal
 
-pub put-requires-clause-right : goal.put-requires-clause-right
-put-requires-clause-right g c = (rw c.read_gate-one.ensures at c.active_two-label.ensures.one) ∙ c.requires.ready.0.labels
-
 pub returns-clause-answer : goal.returns-clause-answer
 returns-clause-answer g c =
     made_answer _ _ _ _ _ g.R.Frame.layout c.args.self.now.job.now _ _ c.requires.empty.0
     c.in_default.ensures.none c.put.ensures.view
     ((rw c.read_gate-one.ensures at c.active_two-label.ensures.one) ∙ c.requires.ready.0.labels)
-
-pub returns-clause-second : goal.returns-clause-second
-returns-clause-second g c = (rw c.read_gate-other.ensures at c.active_two-label.ensures.other) ∙ c.requires.ready.1.labels

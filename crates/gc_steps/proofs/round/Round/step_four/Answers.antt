@@ -18,7 +18,7 @@ looked_at g c =
 pub returns-in_default-clause-answers : goal.returns-in_default-clause-answers
 returns-in_default-clause-answers g c =
     let lay = g.R.Frame.layout in let job = c.args.self.now.job.now in
-    four_later {n = 44} lay job _ _ _ _ _ _ (omega arith)
+    four_later lay job _ {n = 44} _ _ _ _ _ (omega arith)
     (looked_at g (goal.at.returns-in_default-clause-answers g c).After-prepare-d_found)
     (four_made lay job _ _ _ _ _ _ _ (omega arith) c.step_two-a_answer.ensures.answers
     c.step_two-c_answer.ensures.answers)
@@ -31,6 +31,6 @@ returns-clause-answers g c =
     let b = (rw ready.is-1 at c.prepare-b_found.ensures.ok).0 in
     let third = (rw ready.is-2 at c.prepare-c_found.ensures.ok).0 in
     let fourth = (rw ready.is-3 at c.prepare-d_found.ensures.ok).0 in
-    four_later {n = 37} lay job _ _ _ _ _ _ (omega arith)
+    four_later lay job _ {n = 37} _ _ _ _ _ (omega arith)
     (looked_at g (goal.at.returns-clause-answers g c).After-prepare-d_found)
     (rw (a, b, third, fourth) at c.make_four.ensures.answers)

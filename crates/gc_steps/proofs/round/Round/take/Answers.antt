@@ -1,5 +1,5 @@
-use Rattle.gc_steps.proofs.Names.{rules, refl, ◌∙◌}
-use Rattle.gc_steps.proofs.RunLemmas.{unknown, saw_step, claimed_free, free_found}
+use Rattle.gc_steps.proofs.Names.{◌≡◌, ⊎_elim, arith, rules, refl, ◌∙◌}
+use Rattle.gc_steps.proofs.RunLemmas.{unknown, saw_step, claimed_free}
 use Rattle.gc_steps.proofs.round.Round.take.Goals as goal
 
 pub returns-then-found-stamped-2-clause-some : goal.returns-then-found-stamped-2-clause-some
@@ -19,7 +19,8 @@ returns-clause-none g c =
     let r = c.args.self.now.number in
     let not_done = rw c.stamped.ensures at c.if-found-stamped.false in
     let not_taken = rw c.stamped-2.ensures at c.if-found-stamped-2.false in
-    let hit = free_found r _ _ e.found e.finds.state e.finds.round not_done not_taken in (
+    let hit : c.claim-found.result ≡ c.args.free = ⊎_elim
+    (λ same. same) (λ more. absurd (omega (arith, not_done, not_taken, e.finds))) e.found in (
       e.view ∙ claimed_free g.R.Frame.layout c.args.place.now.me.0 r c.args.gate c.args.free _ hit
           c.requires.free.1,
       unknown _ _ _ e.finds.known not_done,
