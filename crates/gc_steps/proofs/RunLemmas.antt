@@ -123,13 +123,6 @@ module _ {J : Type 0} (lay : Layout) (job : JobParts) (r : ℕ) where
     rw p.1.made at (ran_then p.1 q.1),
   )
 
-  -- A result that is not Made is one after any more steps.
-  pub answers_unmade : {a b : Seen J} {m n : ℕ} (g : ℕ) (x : Answer) → m ≤ n
-      → (made_now x ≡ 0) × Says lay job r g a b x → Ran a b a.inner.made m
-      → Answers lay job r g n a b x
-  answers_unmade {a = a} g x le found p =
-      (found.1, rw (unmade r g a.inner.made x found.0) (longer le p))
-
   -- four results of one call: two, and then two,
   pub four_made : {u v w : Seen J} {m n most : ℕ} (a b c d : ℕ) (x y : Answer × Answer)
       → m + n ≤ most → AnswersTwo lay job r a b m u v x → AnswersTwo lay job r c d n v w y
@@ -195,15 +188,6 @@ module _ {J : Type 0} (lay : Layout) (job : JobParts) (r : ℕ) where
           (longer (omega arith) both),
     )
 
--- what is ready stays ready
-pub ready_later : {J : Type 0} {a b : Seen J} {list : List (ℕ × ℕ)} {m : ℕ} {job : JobParts} {r : ℕ}
-    {ready : Prepared} → Ran a b list m → IsPrepared job r a ready → IsPrepared job r b ready
-ready_later {r = r} {ready = ready} p is = record {
-  labels = is.labels;
-  found = omega (arith, p.looks r ready.gate ready.free);
-  free = is.free;
-}
-
 pub got_input : {J : Type 0} {job : JobParts} {r w label : ℕ} {v : Seen J} → IsLawful job.circuit
     → w < input_wires job.circuit
     → label ≡ labels_of job.inputs w → Got job r w v label
@@ -233,23 +217,6 @@ pub alone_later : {J : Type 0} {a b : Seen J} {list : List (ℕ × ℕ)} {m : �
     → IsAlone a
     → IsAlone b
 alone_later p alone = p.seats ∙ alone ∙ sym p.all
-
-module _ {J : Type 0} (job : JobParts) (r g : ℕ) (x : Gate)
-    (there : slice_get job.circuit.gates g ≡ Some x)
-    (a : Seen J)
-    (first_made : (u : ℕ) → first_wire x.operation ≡ Some u → SetsMade job r u a 1) where
-  -- The gate that sets the second wire is not made,
-  pub second_lacking : (w : ℕ) → second_wire x.operation ≡ Some w → SetsMade job r w a 0
-      → FirstLacking job r g a w
-  second_lacking w reads none_yet gate there' =
-      let same : gate ≡ x = cc in rw same (inr (reads, none_yet, first_made))
-
-  -- or it is.
-  pub both_made : ((u : ℕ) → second_wire x.operation ≡ Some u → SetsMade job r u a 1)
-      → ReadsMade job r g a
-  both_made second_made w r =
-      let same : r.gate ≡ x = cc in
-      let reads = rw same at r.reads in ⊎_elim (first_made w) (second_made w) reads
 
 pub alone_made : {J : Type 0} (job : JobParts) (r g : ℕ) (a : Seen J) (x : Answer) → IsMadeNow x
     → (pairs r g a.inner.made ≡ 0) × ReadsMade job r g a → AnswersAlone job r g a x
@@ -282,9 +249,3 @@ made_answer free i low j high lay job r g empty taken put right = rw (put, taken
     steps = simp append_assoc;
   },
 )
-
--- what is claimed at the free word that was looked at is taken
-pub claimed_free : {J : Type 0} (lay : Layout) (v : Seen J) (r g free found : ℕ) → found ≡ free
-    → free ≤ stamp r FREE → after_claim lay v r g free found ≡ after_taken lay v r g free
-claimed_free lay v r g free found hit le =
-    rw (eq-eqb found free hit, ne_eqb found (stamp r DONE) (λ two. omega arith)) (rw hit refl)

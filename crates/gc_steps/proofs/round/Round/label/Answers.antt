@@ -61,10 +61,3 @@ returns-else-load_state-stamped-clause-none g c =
         ),
       );
     }
-
-pub returns-else-load_state-stamped-clause-alone : goal.returns-else-load_state-stamped-clause-alone
-returns-else-load_state-stamped-clause-alone g c = λ alone h set.
-    let by = rw (← c.args.self.now.wired) at c.in-Some.ensures.some in
-    let not_two = rw c.stamped.ensures at c.if-load_state-stamped.false in
-    rw (← set_once _ _ _ h c.circuit.ensures.whole.lawful by set)
-    ((c.load_state.ensures.finds.alone alone).1 ∙ only_other _ _ (λ e. not_two (sym e)))

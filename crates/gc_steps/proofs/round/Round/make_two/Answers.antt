@@ -1,15 +1,6 @@
 use Rattle.std.proofs.Common.{◌∙◌}
-use Rattle.gc_steps.proofs.RunLemmas.{two_made, made_apart, alone_later, ready_later}
+use Rattle.gc_steps.proofs.RunLemmas.{two_made, made_apart, alone_later}
 use Rattle.gc_steps.proofs.round.Round.make_two.Goals as goal
-
-pub publish-requires-clause-free : goal.publish-requires-clause-free
-publish-requires-clause-free g c =
-    let is = ready_later c.make_with_one.ensures.answer.1 c.requires.ready.1 in
-    (is.found, is.free)
-
-pub make-requires-clause-ready : goal.make-requires-clause-ready
-make-requires-clause-ready g c =
-    ready_later c.make_with_one.ensures.answer.1 c.requires.ready.1
 
 pub returns-in-Some-clause-answers : goal.returns-in-Some-clause-answers
 returns-in-Some-clause-answers g c =

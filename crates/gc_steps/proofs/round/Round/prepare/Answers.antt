@@ -20,16 +20,6 @@ returns-then-free-stamped-2-clause-err g c =
       ),
     )
 
-pub returns-in-Ok-clause-ran : goal.returns-in-Ok-clause-ran
-returns-in-Ok-clause-ran g c =
-    let first = looked_at g (goal.at.returns-in-Ok-clause-ran g c).After-load_state-free in
-    rw first.made at (ran_then first c.read_both.ensures.ran)
-
-pub returns-in-Err-clause-ran : goal.returns-in-Err-clause-ran
-returns-in-Err-clause-ran g c =
-    let first = looked_at g (goal.at.returns-in-Err-clause-ran g c).After-load_state-free in
-    rw first.made at (ran_then first c.read_both.ensures.ran)
-
 pub returns-in-Err-clause-err : goal.returns-in-Err-clause-err
 returns-in-Err-clause-err g c =
     let first = looked_at g (goal.at.returns-in-Err-clause-err g c).After-load_state-free in
