@@ -1,3 +1,2 @@
 pub mod Names
 pub mod BoardLabels
-pub mod ClosedLemmas

@@ -1,11 +1,11 @@
 -- The names that most proofs of this crate cite, passed on from one place. Declares nothing.
 pub use Rattle.std.proofs.Common.{◌≡◌, ℕ, zero, suc, ◌*◌, ◌+◌, ◌<◌, List, [], ◌∷◌, slice_get, get_or, Some, inl, refl, sym, ◌∙◌, Bool, Result, arith, add-one, ◌++◌, length, All, ◌≢◌, ◌≤◌, inr, ap, rules, ⊎_elim, append_assoc, length-append, Ok, Err, ◌-◌, map}
 pub use Rattle.std.proofs.lemmas.List.Elements.{All-pop, All-push, All-set, All-head, All-tail}
-pub use Rattle.std.proofs.lemmas.List.FromFn.{map-range_with_len_more, length-map-range_with_len}
+pub use Rattle.std.proofs.lemmas.List.FromFn.{map-range_with_len_more}
 pub use Rattle.std.proofs.lemmas.Result.{err_from_is_err_and}
 pub use Rattle.std.specs.List.{range_with_len}
 pub use Rattle.std.specs.Slots.{slots_items, slots_len}
-pub use Rattle.gc_workers.proofs.Sums.{only_same, only_other}
+pub use Rattle.gc_workers.proofs.Sums.{only_same, only_other, total-append}
 pub use Rattle.gc_workers.specs.Counts.{total, only}
 pub use Rattle.gc_eval.specs.Done.{done_of, HasLabel, state_of}
 pub use Rattle.gc_eval.specs.OneJob.{IsRight}

@@ -1,5 +1,4 @@
-use Rattle.gc_eval.proofs.Names.{All-push, IsWorkerOf}
-use Rattle.gc_steps.proofs.GatherLemmas.{all_but_last, all_last}
+use Rattle.gc_eval.proofs.Names.{All-push, all_but_last, all_last, IsWorkerOf}
 use Rattle.gc_eval.proofs.many.work_together.Goals as goal
 
 pub finish-requires-clause-own : goal.finish-requires-clause-own

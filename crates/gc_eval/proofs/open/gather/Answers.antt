@@ -32,8 +32,7 @@ loop-place-preserved g c =
     let is = c.in-Some-pop.ensures.items in
     let kept = c.join_seat.ensures in
     let i = c.loop-place.invariant in (
-      still_in i.0 kept.0 (ap (λ (u : Seen). u.jobs) kept.1) (ap (λ (u : Seen). u.all) kept.1)
-          (ap (λ (u : Seen). u.inner.job) kept.1),
+      still_in i.0 kept.0 (rw kept.1) (rw kept.1) (rw kept.1),
       all_but_last _ _ _ is Own i.1,
       omega (
         arith,

@@ -1,5 +1,4 @@
-use Rattle.gc_eval.proofs.Names.{All-push, IsSeatOf, IsWorkerOf}
-use Rattle.gc_steps.proofs.GatherLemmas.{all_but_last, all_last}
+use Rattle.gc_eval.proofs.Names.{All-push, all_but_last, all_last, IsSeatOf, IsWorkerOf}
 use Rattle.gc_eval.proofs.worker.seats_of.Goals as goal
 
 pub loop-worker-preserved : goal.loop-worker-preserved

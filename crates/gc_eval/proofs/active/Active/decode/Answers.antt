@@ -25,6 +25,3 @@ returns-clause-err g c =
     let right = rw c.in-Some.is at c.in_ok-labels.ensures in
     evaluated_outputs _ _ (Err _) c.law_whole.ensures (c.deref.ensures.value ∙ right.0)
     c.in-Err.ensures
-
-pub returns-clause-recognised : goal.returns-clause-recognised
-returns-clause-recognised g c _ = let right = rw c.in-Some.is at c.in_ok-labels.ensures in right.1

@@ -1,7 +1,14 @@
-use Rattle.gc_eval.proofs.Names.{◌*◌, arith, sym, slots_items, state_of, only, only_same, only_other, word_is}
-use Rattle.gc_eval.proofs.ClosedLemmas.{total-range}
+use Rattle.gc_eval.proofs.Names.{◌≡◌, ℕ, ◌*◌, ◌+◌, [], ◌∷◌, arith, sym, slots_items, state_of, total, only, only_same, only_other, total-append, range_with_len, map-range_with_len_more, word_is}
+use Rattle.std.proofs.lemmas.List.{map-id}
 use Rattle.gc_eval.proofs.active.Active.done.Goals as goal
 use Rattle.gc_eval.proofs.active.Active.done.Goals.{then-word-eq-DONE, else-word-eq-DONE}
+
+-- one number more
+total-range : (f : ℕ → ℕ) (n : ℕ)
+    → total f (range_with_len 0 (n + 1)) ≡ total f (range_with_len 0 n) + f n
+total-range f n =
+    let more = map-range_with_len_more (λ (k : ℕ). k) 0 n n (omega arith) in
+    rw (simp map-id at more) (omega (arith, total-append f (range_with_len 0 n) (n ∷ [])))
 
 pub loop-gate-preserved : goal.loop-gate-preserved
 loop-gate-preserved g c =

@@ -1,6 +1,5 @@
 use Rattle.gc_eval.proofs.Names.{◌≡◌, ◌+◌, ◌-◌, map, arith, sym, ◌∙◌, range_with_len, map-range_with_len_more, output_wires, active}
-use mathlib.Core.Logic.{dite}
-use native.Mathlib.Decide.{ℕ_discrete}
+use borrow.Author.Count.{below_more}
 use Rattle.gc_eval.proofs.active.Active.output_labels.Goals as goal
 
 pub returns-in_default : goal.returns-in_default
@@ -20,9 +19,7 @@ loop-i-preserved g c =
     let label = c.in-Some.ensures.some in (
       rw (c.in_ok-push.ensures.items, before.0, label.0)
           (sym (map-range_with_len_more (active c.args.self.now.job.now) _ i _ (omega arith))),
-      λ k below. dite (ℕ_discrete k i)
-          (λ e. rw e label.1)
-          (λ ne. before.1 k (omega (arith, ne))),
+      below_more _ _ before.1 label.1,
     )
 
 pub returns : goal.returns

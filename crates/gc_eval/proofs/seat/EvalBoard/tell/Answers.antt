@@ -1,5 +1,4 @@
-use Rattle.gc_eval.proofs.Names.{is_pair}
-use Rattle.gc_workers.proofs.Sums.{total-append}
+use Rattle.gc_eval.proofs.Names.{is_pair, total-append}
 use Rattle.gc_eval.proofs.seat.EvalBoard.tell.Goals as goal
 
 pub returns-clause-known : goal.returns-clause-known
