@@ -1,6 +1,6 @@
 -- The names that most proofs of this crate cite, passed on from one place. Declares nothing.
-pub use Rattle.std.proofs.Common.{◌≡◌, ℕ, zero, suc, ◌*◌, ◌+◌, ◌<◌, List, [], ◌∷◌, slice_get, get_or, Some, inl, refl, sym, ◌∙◌, Bool, Result, arith, add-one, ◌++◌, length, All, ◌≢◌, ◌≤◌, inr, ap, rules, ⊎_elim, append_assoc, length-append, Ok, Err, ◌-◌, map}
-pub use Rattle.std.proofs.lemmas.List.Elements.{All-pop, All-push, All-set, All-head, All-tail}
+pub use Rattle.std.proofs.Common.{◌≡◌, ℕ, ◌*◌, ◌+◌, ◌<◌, List, [], ◌∷◌, get_or, inl, sym, ◌∙◌, arith, length, All, ◌≤◌, inr, ap, ⊎_elim, Ok, Err, ◌-◌, map}
+pub use Rattle.std.proofs.lemmas.List.Elements.{All-push, All-set}
 pub use Rattle.std.proofs.lemmas.List.FromFn.{map-range_with_len_more}
 pub use Rattle.std.proofs.lemmas.Result.{err_from_is_err_and}
 pub use Rattle.std.specs.List.{range_with_len}
@@ -9,16 +9,14 @@ pub use Rattle.gc_workers.proofs.Sums.{only_same, only_other, total-append}
 pub use Rattle.gc_workers.specs.Counts.{total, only}
 pub use Rattle.gc_eval.specs.Done.{done_of, HasLabel, state_of}
 pub use Rattle.gc_eval.specs.OneJob.{IsRight}
-pub use Rattle.gc_eval.specs.Seats.{IsNew, view, job_on, IsSeatOf}
+pub use Rattle.gc_eval.specs.Seats.{IsNew, view, IsSeatOf}
 pub use Rattle.gc_eval.specs.Views.{Seen}
 pub use Rattle.gc_eval.specs.Workers.{IsWorkerOf, AreWorkersOf}
 pub use Rattle.gc_eval.specs.declared.seat.EvalSeat.{EvalSeat}
-pub use Rattle.gc_job.proofs.WiringLemmas.{input_not_set, set_once, set_within}
+pub use Rattle.gc_job.proofs.WiringLemmas.{set_once, set_within}
 pub use Rattle.gc_job.specs.ActiveLabels.{active, gates_of}
-pub use Rattle.gc_job.specs.Evaluate.{labels_of, IsDecodingOf, IsEvaluated}
-pub use Rattle.gc_job.specs.Job.{JobParts, IsWhole}
-pub use Rattle.gc_netlist.specs.Circuit.{input_wires, IsSetBy, IsLawful, and_number, first_wire, second_wire, output_wires, Netlist}
-pub use Rattle.gc_netlist.specs.declared.gate.Gate.{Gate}
+pub use Rattle.gc_job.specs.Job.{JobParts}
+pub use Rattle.gc_netlist.specs.Circuit.{input_wires, IsSetBy, output_wires, Netlist}
 pub use Rattle.gc_gates.specs.Layout.{one_round}
 pub use Rattle.gc_gates.specs.Gates.{Cell}
 pub use Rattle.gc_gates.specs.Pairs.{is_pair, pairs}

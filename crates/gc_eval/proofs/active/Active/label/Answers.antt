@@ -1,5 +1,5 @@
 use Rattle.gc_eval.proofs.Names.{◌+◌, ◌*◌, ◌<◌, inl, inr, ⊎_elim, arith, sym, ◌∙◌, slots_items, slots_len, input_wires, set_once, set_within, active_solves, word_is}
-use Rattle.gc_eval.proofs.BoardLabels.{label_in}
+use Rattle.gc_steps.proofs.LabelLemmas.{joined}
 use Rattle.gc_eval.proofs.active.Active.label.Given.{Over}
 use Rattle.gc_eval.proofs.active.Active.label.Goals.{In-Some}
 use Rattle.gc_eval.proofs.active.Active.label.Goals as goal
@@ -42,11 +42,14 @@ pub returns-then-word-eq-DONE-clause-some : goal.returns-then-word-eq-DONE-claus
 returns-then-word-eq-DONE-clause-some g c =
     let words = slots_items c.args.self.now.closed.words in
     let by = rw c.args.self.now.wired at c.in-Some.ensures.some in
-    let done = c.if-word-eq-DONE.true in (
-      c.from_halves.ensures ∙ label_in _ _ _ _ _ _ _ by c.args.self.now.right c.word.ensures done
-          c.word-low.ensures c.word-high.ensures,
-      inr (c.in-Some.gate, by, word_is words (3 * c.in-Some.gate) _ c.word.ensures ∙ done),
-    )
+    let gate = c.in-Some.gate in
+    let done = word_is words (3 * gate) _ c.word.ensures ∙ c.if-word-eq-DONE.true in
+    let cell = c.args.self.now.right gate in
+    let low = word_is words (3 * gate + 1) _ c.word-low.ensures in
+    let high = word_is words (3 * gate + 2) _ c.word-high.ensures in
+    let label = rw (low, high)
+    at (joined c.args.self.now.job.now gate _ _ (cell.low done) (cell.high done)) in
+    (c.from_halves.ensures ∙ rw (← by.wire) (rw by.at at label), inr (gate, by, done))
 
 pub returns-else-word-eq-DONE-clause-none : goal.returns-else-word-eq-DONE-clause-none
 returns-else-word-eq-DONE-clause-none g c = ⊎_elim
