@@ -1,14 +1,10 @@
 -- Jobs of a list.
-use Rattle.gc_bank.proofs.Names.{◌≡◌, ℕ, zero, suc, ◌+◌, ◌<◌, ◌∙◌, List, [], ◌∷◌, Bool, Vec, Option, Some, map, take, slice_get, refl, sym, ap, Ok, Err, arith, Netlist, JobParts, AreBitsOf, AreKnown}
-use Rattle.std.proofs.Common.{drop, length, Result}
+use Rattle.gc_bank.proofs.Names.{◌≡◌, ℕ, zero, suc, ◌+◌, ◌<◌, ◌∙◌, List, [], ◌∷◌, Bool, Vec, Option, Some, map, take, slice_get, refl, sym, ap, length, arith, Netlist, JobParts, AreBitsOf, AreKnown}
+use Rattle.std.proofs.Common.{drop}
 use Rattle.std.proofs.lemmas.List.{map-id}
 use Rattle.gc_job.proofs.JobsLemmas.{if_some}
 use Rattle.gc_job.proofs.TakeLemmas.{slice_get-take, slice_get_taken}
-use Rattle.gc_job.specs.declared.fault.EvalFault.{EvalFault}
-use Rattle.gc_job.specs.declared.fault.EvalFault.TheVariants.{BadWorkers, UnknownOutputLabel, Memory}
-use Rattle.gc_job.specs.Jobs.{EvaluateTo}
-use Rattle.gc_workers.specs.Workers.{AreFew}
-use Rattle.gc_bank.specs.Jobs.{AreOn, AreOnOneCircuit, AreEvaluatedBy}
+use Rattle.gc_bank.specs.Jobs.{AreOn, AreOnOneCircuit}
 use Rattle.gc_bank.specs.Workers.{AreKnownFrom}
 
 -- one job more on the circuit
@@ -41,23 +37,10 @@ module _ (jobs : List JobParts) (start n : ℕ) where
       one (start + i) (start + k) a b (at_part i a a_at).1 (at_part k b b_at).1
 
   -- and what is known of its jobs is known of them in the list.
-  module _ {B : Type 0} (share : List (Option (Vec Bool B))) where
-    pub part_known : AreKnownFrom jobs start share → AreKnown part share
-    part_known known k d below =
-        if_some _ (λ (v : Vec Bool B). AreBitsOf part k v.items) _
-        (λ v is job at. is job (at_part k job at).1) (known k d below)
-
-    pub known_from_part : length share ≡ n → AreKnown part share → AreKnownFrom jobs start share
-    known_from_part count known k d below =
-        if_some _ (λ (v : Vec Bool B). AreBitsOf jobs (start + k) v.items) _
-        (λ v is job at. is job (rw (map-id (take n (drop start jobs)))
-        (slice_get-take n k (drop start jobs) (omega (arith, count, below))
-        ∙ slice_get-drop start k jobs ∙ at))) (known k d below)
-
--- A few workers evaluate jobs to what these are evaluated to.
-pub by_few : (workers : ℕ) (jobs : List JobParts) (result : Result (List (List Bool)) EvalFault)
-    → AreFew workers → EvaluateTo jobs result → AreEvaluatedBy workers jobs result
-by_few workers jobs (Ok outputs) few is = (few, is)
-by_few workers jobs (Err (UnknownOutputLabel output)) few is = (few, is)
-by_few workers jobs (Err Memory) few is = (few, is)
-by_few workers jobs (Err BadWorkers) few is = absurd is
+  pub known_from_part : {B : Type 0} (share : List (Option (Vec Bool B))) → length share ≡ n
+      → AreKnown part share → AreKnownFrom jobs start share
+  known_from_part share count known k d below =
+      if_some _ (λ (v : Vec Bool _). AreBitsOf jobs (start + k) v.items) _
+      (λ v is job at. is job (rw (map-id (take n (drop start jobs)))
+      (slice_get-take n k (drop start jobs) (omega (arith, count, below))
+      ∙ slice_get-drop start k jobs ∙ at))) (known k d below)

@@ -1,5 +1,5 @@
 -- Rounds with their jobs, and the seats of banks.
-use Rattle.gc_bank.proofs.Names.{◌≡◌, ℕ, ◌+◌, ◌<◌, List, [], ◌∷◌, refl, ap, ◌∙◌, subst, arith, sym, slice_get, get_or, slice_get-get_or, length, length-append, Some, MatchOption, take, Netlist, total, total-append, Key, Inside, JobParts, IsRound, InRound, round_in, IsGatePlace, Seen}
+use Rattle.gc_bank.proofs.Names.{◌≡◌, ℕ, ◌+◌, ◌<◌, List, [], ◌∷◌, refl, ap, ◌∙◌, subst, arith, sym, slice_get, get_or, slice_get-get_or, length, length-append, Some, MatchOption, take, Netlist, total, total-append, Key, Inside, JobParts, IsRound, InRound, round_in, IsGatePlace, Seen, BankSeat}
 use Rattle.std.proofs.lemmas.List.{take_more}
 use Rattle.atomic_table.specs.Seated.{TableId}
 use Rattle.atomic_table.specs.declared.shared.Seat.{Seat}
@@ -10,6 +10,10 @@ use Rattle.gc_steps.specs.declared.answer.Answer.TheVariants.{Made, Done, Taken,
 use Rattle.gc_steps.specs.Walks.{made_now}
 use Rattle.gc_steps.specs.Views.{made_after}
 use Rattle.gc_bank.specs.Rounds.{gates_of_each}
+
+-- The seat is one of these banks'.
+abbrev pub IsAt : {A B C : Type 0} → TableId → Key (List JobParts) → BankSeat A B C → Type 0
+IsAt table key s = IsGatePlace two_banks gates_of_each table key s.place
 
 -- a seat of the banks is one of their table
 pub place_of : {S : Type 0} {table : TableId} {key : Key (List JobParts)} {seat : Seat S Seen}
@@ -36,16 +40,6 @@ is_round (first ∷ rest) c r job on there = record {
   at = there;
   gates = ap (λ (n : Netlist). length n.gates) (on r job there ∙ sym (on 0 first refl));
 }
-
--- Each round has a job, where all are on one circuit.
-pub has_round : (jobs : List JobParts) (c : Netlist) (r : ℕ)
-    → ((k : ℕ) (other : JobParts) → slice_get jobs k ≡ Some other → other.circuit ≡ c)
-    → r < length jobs → MatchOption (slice_get jobs r) ⊥ (IsRound jobs r)
-has_round [] c r on below = absurd (omega arith)
-has_round (first ∷ rest) c r on below =
-    let jobs = first ∷ rest in
-    let there = slice_get-get_or jobs r first below in
-    subst (λ o. MatchOption o ⊥ (IsRound jobs r)) (sym there) (is_round jobs c r _ on there)
 
 -- The round that a seat is inside, and its job.
 pub in_round : (jobs : List JobParts) (v : Seen) (r : ℕ) (job : JobParts)

@@ -1,14 +1,11 @@
-use Rattle.gc_bank.proofs.Names.{two_banks, ◌≡◌, arith, ap, Outside, pairs, IsGatePlace, all_but_last, all_last, total_last, length_last, gates_of_each, Seen, BankSeat}
-use Rattle.gc_bank.proofs.RoundLemmas.{place_of}
+use Rattle.gc_bank.proofs.Names.{◌≡◌, arith, ap, Outside, pairs, all_but_last, all_last, total_last, length_last, pairs_merged, Seen, BankSeat}
+use Rattle.gc_bank.proofs.RoundLemmas.{IsAt, place_of}
 use Rattle.gc_steps.proofs.RunLemmas.{still_in}
-use Rattle.gc_steps.proofs.GatherLemmas.{pairs_merged}
 use Rattle.gc_bank.proofs.open.gather.Goals as goal
 
 pub loop-seat-init : goal.loop-seat-init
 loop-seat-init g c =
-    let Own : BankSeat _ _ _ → Type 0 =
-    λ s. IsGatePlace two_banks gates_of_each c.args.words.now.table_id c.args.words.now.key s.place
-    in
+    let Own : BankSeat _ _ _ → Type 0 = IsAt c.args.words.now.table_id c.args.words.now.key in
     let Out : BankSeat _ _ _ → Type 0 = λ s. s.place.me.0.position ≡ Outside in
     let is = c.in-Some.ensures.items in (
       all_last _ _ _ is Own c.requires.own,
@@ -23,9 +20,7 @@ loop-seat-init g c =
 
 pub join_place-requires-clause-other : goal.join_place-requires-clause-other
 join_place-requires-clause-other g c =
-    let Own : BankSeat _ _ _ → Type 0 =
-    λ s. IsGatePlace two_banks gates_of_each c.args.words.now.table_id c.args.words.now.key s.place
-    in
+    let Own : BankSeat _ _ _ → Type 0 = IsAt c.args.words.now.table_id c.args.words.now.key in
     place_of (all_last _ _ _ c.in-Some-pop.ensures.items Own c.loop-seat.invariant.1)
 
 pub join_place-requires-clause-idle : goal.join_place-requires-clause-idle
@@ -39,15 +34,12 @@ join_place-requires-clause-idle g c =
 
 pub loop-seat-preserved : goal.loop-seat-preserved
 loop-seat-preserved g c =
-    let Own : BankSeat _ _ _ → Type 0 =
-    λ s. IsGatePlace two_banks gates_of_each c.args.words.now.table_id c.args.words.now.key s.place
-    in
+    let Own : BankSeat _ _ _ → Type 0 = IsAt c.args.words.now.table_id c.args.words.now.key in
     let Out : BankSeat _ _ _ → Type 0 = λ s. s.place.me.0.position ≡ Outside in
     let is = c.in-Some-pop.ensures.items in
     let kept = c.join_place.ensures in
     let i = c.loop-seat.invariant in (
-      still_in i.0 kept.0 (ap (λ (u : Seen). u.jobs) kept.1) (ap (λ (u : Seen). u.all) kept.1)
-          (ap (λ (u : Seen). u.inner.job) kept.1),
+      still_in i.0 kept.0 (rw kept.1) (rw kept.1) (rw kept.1),
       all_but_last _ _ _ is Own i.1,
       all_but_last _ _ _ is Out i.2,
       omega (

@@ -7,7 +7,7 @@ kept_by-slots-requires-clause-worker g c =
 
 pub loop-worker-preserved : goal.loop-worker-preserved
 loop-worker-preserved g c = (
-  all_but_last _ _ _ c.in-Some.ensures.items
-      (IsWorkerOf c.args.banks.now) c.loop-worker.invariant.0,
+  all_but_last _ _ _ c.in-Some.ensures.items (IsWorkerOf c.args.banks.now)
+      c.loop-worker.invariant.0,
   c.kept_by-slots.ensures,
 )

@@ -9,8 +9,8 @@ returns-clause-answers g c =
     let inside : old.position ≡ Inside c.in-Some.round =
     (a.seat.now.within c.in-Some.round c.in-Some.is).0 in
     in_round (jobs_on a.self.now) old c.in-Some.round c.at.result.job.now
-    (λ r job. AnswersFour job r a.gates.a a.gates.b a.gates.c a.gates.d 72 old c.step_four-answers.new.place.me.0
-    c.step_four-answers.result)
+    (λ r job. AnswersFour job r a.gates.a a.gates.b a.gates.c a.gates.d 72 old
+    c.step_four-answers.new.place.me.0 c.step_four-answers.result)
     inside c.at.ensures.job (rw c.at.ensures.number at c.step_four-answers.ensures.answers)
 
 pub invariant_of-seat-clause-counted : goal.invariant_of-seat-clause-counted
