@@ -62,14 +62,4 @@ length_after r g l (NotYet w) = omega arith
 pub four_counted : (r a b c d : ℕ) (l new : List (ℕ × ℕ)) (x : Answer × Answer × Answer × Answer)
     → new ≡ made_after r d (made_after r c (made_after r b (made_after r a l x.0) x.1) x.2) x.3
     → length new ≡ length l + made_now x.0 + made_now x.1 + made_now x.2 + made_now x.3
-four_counted r a b c d l new x is =
-    let first = made_after r a l x.0 in
-    let second = made_after r b first x.1 in
-    let third = made_after r c second x.2 in
-    rw is (omega (
-      arith,
-      length_after r a l x.0,
-      length_after r b first x.1,
-      length_after r c second x.2,
-      length_after r d third x.3,
-    ))
+four_counted r a b c d l new x is = rw is (simp length_after)
