@@ -1,5 +1,5 @@
 -- Rounds with their jobs, and the seats of banks.
-use Rattle.gc_bank.proofs.Names.{◌≡◌, ℕ, ◌+◌, ◌<◌, List, [], ◌∷◌, refl, ap, ◌∙◌, subst, arith, sym, slice_get, get_or, slice_get-get_or, length, length-append, Some, MatchOption, take, Netlist, total, total-append, Key, Inside, JobParts, IsRound, InRound, round_in, IsGatePlace, Seen, BankSeat}
+use Rattle.gc_bank.proofs.Names.{◌≡◌, ℕ, ◌+◌, ◌<◌, List, [], ◌∷◌, refl, ap, ◌∙◌, subst, arith, sym, slice_get, get_or, length, length-append, Some, MatchOption, take, Netlist, total, total-append, Key, Inside, JobParts, IsRound, InRound, round_in, IsGatePlace, Seen, BankSeat}
 use Rattle.std.proofs.lemmas.List.{take_more}
 use Rattle.atomic_table.specs.Seated.{TableId}
 use Rattle.atomic_table.specs.declared.shared.Seat.{Seat}
@@ -43,8 +43,7 @@ is_round (first ∷ rest) c r job on there = record {
 
 -- The round that a seat is inside, and its job.
 pub in_round : (jobs : List JobParts) (v : Seen) (r : ℕ) (job : JobParts)
-    (P : ℕ → JobParts → Type 0)
-    → v.position ≡ Inside r → slice_get jobs r ≡ Some job → P r job
+    (P : ℕ → JobParts → Type 0) → v.position ≡ Inside r → slice_get jobs r ≡ Some job → P r job
     → InRound jobs v (P (round_in v.position))
 in_round jobs v r job P inside there p =
     subst (λ k. MatchOption (slice_get jobs k) ⊥ (P k)) (sym (ap round_in inside))

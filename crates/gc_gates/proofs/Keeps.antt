@@ -117,8 +117,7 @@ module _ (lay : Layout) where
     -- where one seat stands for all, no other has a gate in hand or made one
     pub sees_all : (words : List ℕ) (views : List (SeatView J)) (id : ℕ) (v : SeatView J)
         → Rule words views → get_elem? views id ≡ some v → v.all ≡ key.seats → v.seats ≡ v.all
-        → (r g : ℕ)
-        → (in_hand r g v.inner.hand ≡ only (stamp r IN_HAND) (state_of words r g))
+        → (r g : ℕ) → (in_hand r g v.inner.hand ≡ only (stamp r IN_HAND) (state_of words r g))
         × (total (λ u. pairs r g u.inner.made) views ≡ pairs r g v.inner.made)
     sees_all words views id v o at_id are whole r g =
         let all : total (λ (u : SeatView J). u.seats) views ≡ v.seats =

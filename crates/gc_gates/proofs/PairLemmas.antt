@@ -17,8 +17,7 @@ pair_same r g = grind (arith, nat_tests)
 pub pair_is : (r g : ℕ) (p : ℕ × ℕ) → 0 < is_pair r g p → (r ≡ p.0) × (g ≡ p.1)
 pair_is r g p some_times = grind (arith, nat_tests)
 
-pub look_is : (r g n : ℕ) (t : ℕ × ℕ × ℕ) → 0 < is_look r g n t
-    → (r ≡ t.0) × (g ≡ t.1) × (n ≡ t.2)
+pub look_is : (r g n : ℕ) (t : ℕ × ℕ × ℕ) → 0 < is_look r g n t → (r ≡ t.0) × (g ≡ t.1) × (n ≡ t.2)
 look_is r g n t some_times = grind (arith, nat_tests)
 
 pub someone : {A : Type 0} (f : A → ℕ) (l : List A) → 0 < total f l → (j : ℕ) × (u : A)

@@ -17,7 +17,6 @@ module _ {X : Type 0} (old new : List X) (x : X) (is : old ≡ new ++ x ∷ []) 
   pub length_last : length old ≡ length new + 1
   length_last = rw is (length-append new (x ∷ []))
 
-pub pairs_merged : {J : Type 0} (v w u : Seen J) (r g : ℕ)
-    → u ≡ merged v w (joined v.inner w.inner)
+pub pairs_merged : {J : Type 0} (v w u : Seen J) (r g : ℕ) → u ≡ merged v w (joined v.inner w.inner)
     → pairs r g u.inner.made ≡ pairs r g v.inner.made + pairs r g w.inner.made
 pairs_merged v w u r g e = rw e (total-append (is_pair r g) v.inner.made w.inner.made)

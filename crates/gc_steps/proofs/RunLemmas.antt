@@ -1,23 +1,20 @@
 -- Calls one after another, inside a round.
-use Rattle.gc_steps.proofs.Names.{◌≡◌, ◌≢◌, ℕ, ◌+◌, ◌*◌, ◌%◌, ◌<◌, ◌≤◌, ◌⊎◌, List, [], ◌∷◌, ◌++◌, refl, ap, ◌∙◌, arith, rules, append_assoc, length-append, sym, slice_get, Some, eq-eqb, ne_eqb, inl, inr, ⊎_elim, IsLawful, input_wires, first_wire, second_wire, only, total-append, only_same, only_other, Key, is_pair, pairs, IsGatePlace, JobParts, labels_of, input_not_set, made_now, made_after, IsAlone, SetsMade, ReadsMade, FirstLacking, AnswersAlone, sighting, sightings, Seen, Ran, Got, Lacks, Says, Answers, AnswersTwo, AnswersFour, IsPrepared, IsMadeNow, after_taken, active, set_of}
+use Rattle.gc_steps.proofs.Names.{◌≡◌, ◌≢◌, ℕ, ◌+◌, ◌*◌, ◌<◌, ◌≤◌, List, [], ◌∷◌, ◌++◌, refl, ap, ◌∙◌, arith, rules, append_assoc, length-append, sym, inl, IsLawful, input_wires, only, total-append, Key, is_pair, pairs, IsGatePlace, JobParts, labels_of, input_not_set, made_now, made_after, IsAlone, ReadsMade, AnswersAlone, sighting, sightings, Seen, Ran, Got, Lacks, Says, Answers, AnswersTwo, AnswersFour, IsMadeNow, after_taken, active, set_of}
 use Rattle.atomic_table.specs.Seated.{TableId}
 use Rattle.atomic_table.specs.declared.shared.Seat.{Seat}
-use Rattle.gc_netlist.specs.declared.gate.Gate.{Gate}
-use Rattle.gc_workers.specs.declared.states.TheConstants.{DONE, FREE, IN_HAND}
-use Rattle.gc_rounds.specs.declared.words.TheConstants.{ROUND}
-use Rattle.gc_rounds.specs.Words.{round_of, stamp}
+use Rattle.gc_workers.specs.declared.states.TheConstants.{DONE, IN_HAND}
+use Rattle.gc_rounds.specs.Words.{stamp}
 use Rattle.gc_rounds.specs.Places.{IsSamePlace}
 use Rattle.gc_rounds.specs.declared.view.Step.{Step}
 use Rattle.gc_rounds.specs.declared.view.Step.TheVariants.{Store, Claim}
 use Rattle.gc_gates.specs.Layout.{Layout}
-use Rattle.gc_gates.specs.Steps.{after_claim, after_stored, after_done}
+use Rattle.gc_gates.specs.Steps.{after_stored, after_done}
 use Rattle.gc_gates.proofs.PairLemmas.{pair_same}
 use Rattle.std.proofs.lemmas.Bool.Decides.{nat_tests}
 use Rattle.gc_gates.specs.declared.view.Hand.TheVariants.{Empty}
 use Rattle.gc_steps.specs.declared.answer.Answer.{Answer}
 use Rattle.gc_steps.specs.declared.answer.Answer.TheVariants.{Made, Done, Taken, NotYet}
 use Rattle.gc_steps.proofs.LabelLemmas.{active_solves}
-use Rattle.gc_steps.specs.declared.round.Prepared.{Prepared}
 
 -- What was known is known, and what was sighted is.
 pub record Grown {J : Type 0} (old new : Seen J) : Type 0 where
@@ -30,11 +27,8 @@ still = record { known = λ r g. omega arith; sighted = λ word found. omega ari
 pub grown : {J : Type 0} {a b : Seen J} {list : List (ℕ × ℕ)} {m : ℕ} → Ran a b list m → Grown a b
 grown {a = a} p = record {
   known = p.known;
-  sighted = λ word found. omega (
-    arith,
-    ap (sightings word found) p.steps,
-    total-append (sighting word found) a.steps p.added,
-  );
+  sighted = λ word found. let all = total-append (sighting word found) a.steps p.added in
+      omega (arith, ap (sightings word found) p.steps);
 }
 
 pub ran_then : {J : Type 0} {a b c : Seen J} {first list : List (ℕ × ℕ)} {m n : ℕ} → Ran a b first m
@@ -71,8 +65,7 @@ unknown n found two known ne = grind arith
 
 -- What is said of a call is said of a longer one, which has it as a part.
 pub lacks_within : {J : Type 0} {lay : Layout} {a b c d : Seen J} {job : JobParts} {r w : ℕ}
-    → Grown a b → Grown c d
-    → Lacks lay job r w b c → Lacks lay job r w a d
+    → Grown a b → Grown c d → Lacks lay job r w b c → Lacks lay job r w a d
 lacks_within {lay = lay} {r = r} p q l = record {
   no_input = l.no_input;
   unknown = λ h set. let t = l.unknown h set in let found = t.1.0 in
@@ -189,8 +182,7 @@ module _ {J : Type 0} (lay : Layout) (job : JobParts) (r : ℕ) where
     )
 
 pub got_input : {J : Type 0} {job : JobParts} {r w label : ℕ} {v : Seen J} → IsLawful job.circuit
-    → w < input_wires job.circuit
-    → label ≡ labels_of job.inputs w → Got job r w v label
+    → w < input_wires job.circuit → label ≡ labels_of job.inputs w → Got job r w v label
 got_input {job = job} {w = w} lawful input is = record {
   set = inl input;
   right = is ∙ sym ((active_solves job lawful).inputs w input);
@@ -199,10 +191,9 @@ got_input {job = job} {w = w} lawful input is = record {
 
 -- a seat that moved is still one of the table
 pub still_in : {J S : Type 0} {gates : J → ℕ} {lay : Layout} {table : TableId} {key : Key J}
-    {old new : Seat S (Seen J)}
-    → IsGatePlace lay gates table key old → IsSamePlace old new → new.me.0.jobs ≡ old.me.0.jobs
-    → new.me.0.all ≡ old.me.0.all → new.me.0.inner.job ≡ old.me.0.inner.job
-    → IsGatePlace lay gates table key new
+    {old new : Seat S (Seen J)} → IsGatePlace lay gates table key old → IsSamePlace old new
+    → new.me.0.jobs ≡ old.me.0.jobs → new.me.0.all ≡ old.me.0.all
+    → new.me.0.inner.job ≡ old.me.0.inner.job → IsGatePlace lay gates table key new
 still_in p same jobs all about = record {
   words = p.words;
   slots = p.slots;
@@ -214,8 +205,7 @@ still_in p same jobs all about = record {
 
 -- banks with one seat
 pub alone_later : {J : Type 0} {a b : Seen J} {list : List (ℕ × ℕ)} {m : ℕ} → Ran a b list m
-    → IsAlone a
-    → IsAlone b
+    → IsAlone a → IsAlone b
 alone_later p alone = p.seats ∙ alone ∙ sym p.all
 
 pub alone_made : {J : Type 0} (job : JobParts) (r g : ℕ) (a : Seen J) (x : Answer) → IsMadeNow x

@@ -1,4 +1,4 @@
-use Rattle.gc_bank.proofs.Names.{◌≡◌, arith, ap, Outside, pairs, all_but_last, all_last, total_last, length_last, pairs_merged, Seen, BankSeat}
+use Rattle.gc_bank.proofs.Names.{ℕ, ◌≡◌, arith, ap, Outside, pairs, all_but_last, all_last, total_last, length_last, pairs_merged, Seen, BankSeat}
 use Rattle.gc_bank.proofs.RoundLemmas.{IsAt, place_of}
 use Rattle.gc_steps.proofs.RunLemmas.{still_in}
 use Rattle.gc_bank.proofs.open.gather.Goals as goal
@@ -7,15 +7,13 @@ pub loop-seat-init : goal.loop-seat-init
 loop-seat-init g c =
     let Own : BankSeat _ _ _ → Type 0 = IsAt c.args.words.now.table_id c.args.words.now.key in
     let Out : BankSeat _ _ _ → Type 0 = λ s. s.place.me.0.position ≡ Outside in
+    let made = λ (r gate : ℕ) (s : BankSeat _ _ _). pairs r gate s.place.me.0.inner.made in
     let is = c.in-Some.ensures.items in (
       all_last _ _ _ is Own c.requires.own,
       all_but_last _ _ _ is Own c.requires.own,
       all_but_last _ _ _ is Out c.requires.outside,
       omega (arith, length_last _ _ _ is, c.in-Some.last.at_rest.2),
-      λ r gate. omega (
-        arith,
-        total_last _ _ _ is (λ (s : BankSeat _ _ _). pairs r gate s.place.me.0.inner.made),
-      ),
+      λ r gate. omega (arith, total_last _ _ _ is (made r gate)),
     )
 
 pub join_place-requires-clause-other : goal.join_place-requires-clause-other
@@ -38,22 +36,15 @@ loop-seat-preserved g c =
     let Out : BankSeat _ _ _ → Type 0 = λ s. s.place.me.0.position ≡ Outside in
     let is = c.in-Some-pop.ensures.items in
     let kept = c.join_place.ensures in
+    let seats = ap (λ (u : Seen). u.seats) kept.1 in
+    let seat = c.in-Some-pop.seat in
+    let made = λ (r gate : ℕ) (s : BankSeat _ _ _). pairs r gate s.place.me.0.inner.made in
     let i = c.loop-seat.invariant in (
       still_in i.0 kept.0 (rw kept.1) (rw kept.1) (rw kept.1),
       all_but_last _ _ _ is Own i.1,
       all_but_last _ _ _ is Out i.2,
-      omega (
-        arith,
-        length_last _ _ _ is,
-        c.in-Some-pop.seat.at_rest.2,
-        i.3,
-        ap (λ (u : Seen). u.seats) kept.1,
-      ),
-      λ r gate. omega (
-        arith,
-        total_last _ _ _ is (λ (s : BankSeat _ _ _). pairs r gate s.place.me.0.inner.made),
-        pairs_merged c.loop-seat.whole.me.0 c.in-Some-pop.seat.place.me.0
-            c.join_place.new.place.me.0 r gate kept.1,
-        i.4 r gate,
-      ),
+      omega (arith, length_last _ _ _ is, seat.at_rest.2, i.3, seats),
+      λ r gate.
+          let both = pairs_merged c.loop-seat.whole.me.0 seat.place.me.0 _ r gate kept.1 in
+          omega (arith, total_last _ _ _ is (made r gate), i.4 r gate),
     )

@@ -4,12 +4,7 @@ use Rattle.gc_bank.proofs.open.made_by.Goals as goal
 
 pub loop-seat-preserved : goal.loop-seat-preserved
 loop-seat-preserved g c =
-    let seat = c.seat-item.result in omega (
-      arith,
-      total_taken (λ (s : BankSeat _ _ _). length s.place.me.0.inner.made) c.args.seats.now
-          c.loop-seat.seat-index seat (omega arith),
-      ap (λ (s : BankSeat _ _ _). length s.place.me.0.inner.made) c.seat-item.is,
-      seat.counted,
-      c.loop-seat.invariant,
-      c.saturating_add-made.ensures,
-    )
+    let seat = c.seat-item.result in
+    let made = λ (s : BankSeat _ _ _). length s.place.me.0.inner.made in
+    let taken = total_taken made c.args.seats.now c.loop-seat.seat-index seat (omega arith) in
+    omega (arith, ap made c.seat-item.is, seat.counted)

@@ -1,4 +1,4 @@
-use Rattle.gc_eval.proofs.Names.{length, arith, IsWorkerOf}
+use Rattle.gc_eval.proofs.Names.{arith}
 use Rattle.gc_eval.proofs.many.all_work.Goals as goal
 
 pub returns : goal.returns

@@ -1,4 +1,4 @@
-use Rattle.gc_steps.proofs.Names.{arith, sym, ◌∙◌, refl, ◌<◌, only_other, set_once, set_within}
+use Rattle.gc_steps.proofs.Names.{arith, refl, ◌<◌, set_once, set_within}
 use Rattle.gc_steps.proofs.RunLemmas.{got_input, unknown, saw_step, still_in}
 use Rattle.gc_steps.proofs.round.Round.label.Given.{Over}
 use Rattle.gc_steps.proofs.round.Round.label.Goals.{In-Some}
@@ -7,12 +7,9 @@ use Rattle.gc_steps.proofs.round.Round.label.Goals as goal
 -- There are words for the gate that sets the wire.
 exists : (g : Over) (c : In-Some g)
     → c.in-Some.gate < g.J.Subject.gates c.args.self.now.words.now.key.about
-exists g c = omega (
-  arith,
-  set_within c.args.self.now.job.now.circuit c.args.wire c.in-Some.gate
-      (rw (← c.args.self.now.wired) at c.in-Some.ensures.some),
-  c.args.self.now.gates,
-)
+exists g c =
+    let by = rw (← c.args.self.now.wired) at c.in-Some.ensures.some in
+    omega (arith, set_within _ _ _ by, c.args.self.now.gates)
 
 pub returns-then-wire-input_wires-clause-some : goal.returns-then-wire-input_wires-clause-some
 returns-then-wire-input_wires-clause-some g c =

@@ -1,5 +1,5 @@
 use Rattle.gc_steps.proofs.Names.{rules, ◌∙◌, refl, sym, only_other, Ran}
-use Rattle.gc_steps.proofs.RunLemmas.{unknown, saw_step, ran_then, grown, still, lacks_within, alone_later}
+use Rattle.gc_steps.proofs.RunLemmas.{unknown, saw_step, grown, still, lacks_within, alone_later}
 use Rattle.gc_steps.proofs.round.Round.prepare.Given.{Over}
 use Rattle.gc_steps.proofs.round.Round.prepare.Goals.{After-load_state-free}
 use Rattle.gc_steps.proofs.round.Round.prepare.Goals as goal
