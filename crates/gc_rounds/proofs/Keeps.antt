@@ -70,13 +70,10 @@ steady c before now x y s small mark round count no_gift no_seal = record {
 }
 
 module _ {I : Type 0} (jobs seats : ℕ) where
-  abbrev Rule : List ℕ → List (View I) → Type 0
-  Rule words views = BanksSound jobs seats words views
-
   -- a view that stands for all seats finds its own doing
-  finds_own : (words : List ℕ) (views : List (View I)) (id r : ℕ) (v : View I) → Rule words views
-      → get_elem? views id ≡ some v → v.all ≡ seats → r < jobs → v.seats ≡ v.all
-      → IsOwn v r (get_or words (bank_of r) 0)
+  finds_own : (words : List ℕ) (views : List (View I)) (id r : ℕ) (v : View I)
+      → BanksSound jobs seats words views → get_elem? views id ≡ some v → v.all ≡ seats → r < jobs
+      → v.seats ≡ v.all → IsOwn v r (get_or words (bank_of r) 0)
   finds_own words views id r v o at are near whole =
       let all : total (λ (u : View I). u.seats) views ≡ v.seats = omega (arith, o.dealt) in
       let alone = λ (f : Step → ℕ). sole (λ (u : View I). total f u.steps) (λ u. u.seats) views id v
@@ -88,8 +85,8 @@ module _ {I : Type 0} (jobs seats : ℕ) where
       }
 
   -- no bank counts more seats than there are
-  counts_few : (words : List ℕ) (views : List (View I)) (b : ℕ) → Rule words views → b < 2
-      → count_of (get_or words b 0) ≤ 64
+  counts_few : (words : List ℕ) (views : List (View I)) (b : ℕ) → BanksSound jobs seats words views
+      → b < 2 → count_of (get_or words b 0) ≤ 64
   counts_few words views b o small =
       let le = totals_le (λ (u : View I). counted b u.position) (λ u. u.seats) views
       (λ j u at. omega (arith, counted_once b u.position small, (o.fits j u at).few)) in
@@ -97,10 +94,10 @@ module _ {I : Type 0} (jobs seats : ℕ) where
 
   -- a step that changes the words of banks, and the view at id from v to w
   turned : (before now : List ℕ) (views : List (View I)) (id : ℕ) (v w : View I) (s : Step)
-      → Rule before views → get_elem? views id ≡ some v → 1 < length now
+      → BanksSound jobs seats before views → get_elem? views id ≡ some v → 1 < length now
       → ((c : ℕ) → c < 2 → Turn c (get_or before c 0) (get_or now c 0) v.position w.position s)
       → w.seats ≡ v.seats → w.steps ≡ v.steps ++ s ∷ [] → StandFits jobs now w
-      → Rule now (set views id w)
+      → BanksSound jobs seats now (set views id w)
   turned before now views id v w s o at wide turns parts steps mine =
       let totals = λ (m : View I → ℕ). total-set m views id v w at in
       let added : (f : Step → ℕ) → total (λ (u : View I). total f u.steps) (set views id w)
@@ -155,9 +152,8 @@ module _ {T I : Type 0} (jobs seats : ℕ) (about : T) (holds : T → List ℕ �
         → ((r : ℕ) → bank_of r ≢ b → seals_in r e ≡ 0)
         → ((r : ℕ) → position ≡ Inside r → (bank_of r ≡ b) × (round_of n ≡ r) × (r < jobs))
         → counted 0 position + counted 1 position ≤ me.0.seats → unfair e ≡ 0
-        → (position ≡ me.0.position) ⊎ idle me.0.inner
-        → (w : View I) × (a : Act S) × Valid s.homes me.1 a
-        × Holds (stepped s b n id me.1 w a)
+        → (position ≡ me.0.position) ⊎ idle me.0.inner → (w : View I) × (a : Act S)
+        × Valid s.homes me.1 a × Holds (stepped s b n id me.1 w a)
         × viewed me (get_or s.words b 0) (w, carried_after me.1 a) (recorded me.0 position e)
     steps_on s b n position e o at small turn others no_seal sees few fair rest =
         let v = me.0 in let now = set s.words b n in
@@ -270,10 +266,9 @@ module _ {T I : Type 0} (jobs seats : ℕ) (about : T) (holds : T → List ℕ �
 
 -- a step on another word than the banks', by a seat that stays where it is
 pub step_on_another_word : {I : Type 0} (jobs seats : ℕ) (before now : List ℕ)
-    (views : List (View I)) (id : ℕ)
-    (v w : View I) (s : Step) → BanksSound jobs seats before views → get_elem? views id ≡ some v
-    → 1 < length now → ((b : ℕ) → b < 2 → get_or now b 0 ≡ get_or before b 0)
-    → w.position ≡ v.position
+    (views : List (View I)) (id : ℕ) (v w : View I) (s : Step) → BanksSound jobs seats before views
+    → get_elem? views id ≡ some v → 1 < length now
+    → ((b : ℕ) → b < 2 → get_or now b 0 ≡ get_or before b 0) → w.position ≡ v.position
     → w.all ≡ v.all → w.seats ≡ v.seats → w.steps ≡ v.steps ++ s ∷ [] → ((b : ℕ) → gives b s ≡ 0)
     → ((r : ℕ) → seals_in r s ≡ 0) → unfair s ≡ 0 → BanksSound jobs seats now (set views id w)
 step_on_another_word jobs seats before now views id v w s o at wide same position all parts

@@ -34,9 +34,6 @@ laid_fresh size second is = let words = laid_words size second in record {
 }
 
 module _ {I : Type 0} (jobs seats : ℕ) where
-  abbrev Rule : List ℕ → List (View I) → Type 0
-  Rule words views = BanksSound jobs seats words views
-
   -- a view that took no step yet, and is at no bank
   fresh : (words : List ℕ) (v : View I) → v.position ≡ Outside → v.steps ≡ []
       → (v.seats ≡ 0 → v.all ≡ 0) → StandFits jobs words v
@@ -49,7 +46,7 @@ module _ {I : Type 0} (jobs seats : ℕ) where
 
   pub opens : (size second : ℕ) (inner : I) → round_of second ≡ 1 → count_of second ≡ 0
       → mark_of second < 2 → (1 < jobs → mark_of second ≡ 0) → 0 < seats → seats ≤ 64
-      → Rule (laid size second) (starting jobs seats inner ∷ [])
+      → BanksSound jobs seats (laid size second) (starting jobs seats inner ∷ [])
   opens size second inner round count mark unsealed some_seat small = record {
     wide = omega (arith, (laid_words size second).0);
     banks = λ b l. let t = bank b l in
@@ -73,8 +70,9 @@ module _ {I : Type 0} (jobs seats : ℕ) where
       bank (suc (suc b)) l = absurd (omega arith)
 
   pub deals : (words : List ℕ) (views : List (View I)) (id : ℕ) (v : View I) (inner : I)
-      → Rule words views → get_elem? views id ≡ some v → 1 < v.seats → v.position ≡ Outside
-      → Rule words (set views id (one_less v) ++ newcomer v inner ∷ [])
+      → BanksSound jobs seats words views → get_elem? views id ≡ some v → 1 < v.seats
+      → v.position ≡ Outside
+      → BanksSound jobs seats words (set views id (one_less v) ++ newcomer v inner ∷ [])
   deals words views id v inner o at several out =
       let left = one_less v in let other = newcomer v inner in let f = o.fits id v at in
       let totals = λ (m : View I → ℕ). total-dealt m views id v left other at in record {
@@ -99,9 +97,10 @@ module _ {I : Type 0} (jobs seats : ℕ) where
       }
 
   pub joins : (words : List ℕ) (views : List (View I)) (id other : ℕ) (v w : View I)
-      (inner spent : I) → Rule words views → get_elem? views id ≡ some v → ¬ (other ≡ id)
-      → get_elem? (set views id (merged v w inner)) other ≡ some w → w.position ≡ Outside
-      → Rule words (set (set views id (merged v w inner)) other (nobody spent))
+      (inner spent : I) → BanksSound jobs seats words views → get_elem? views id ≡ some v
+      → ¬ (other ≡ id) → get_elem? (set views id (merged v w inner)) other ≡ some w
+      → w.position ≡ Outside
+      → BanksSound jobs seats words (set (set views id (merged v w inner)) other (nobody spent))
   joins words views id other v w inner spent o at apart there out =
       let both = merged v w inner in let none_left = nobody spent in let f = o.fits id v at in
       let theirs = o.fits other w (sym (set_else views id other both apart) ∙ there) in

@@ -19,20 +19,18 @@ whole n = omega arith
 
 pub added : (n : ℕ) → n < 18446744073709551616 → count_of n < 65535
     → Parts ((n + 1) % 2 ^ 64) (count_of n + 1) (mark_of n) (round_of n)
-added n small few = parts ((n + 1) % 2 ^ 64) (count_of n + 1) (mark_of n) (round_of n) (omega arith)
-    (omega arith) (omega (arith, whole n))
+added n small few = parts _ _ _ _ (omega arith) (omega arith) (omega (arith, whole n))
 
 pub taken : (n : ℕ) → n < 18446744073709551616 → 0 < count_of n
     → Parts ((n + (2 ^ 64 - 1)) % 2 ^ 64) (count_of n - 1) (mark_of n) (round_of n)
-taken n small some = parts ((n + (2 ^ 64 - 1)) % 2 ^ 64) (count_of n - 1) (mark_of n) (round_of n)
-    (omega arith) (omega arith) (omega (arith, whole n))
+taken n small some = parts _ _ _ _ (omega arith) (omega arith) (omega (arith, whole n))
 
 pub opened : (r : ℕ) → Parts (open_word r) 0 0 r
-opened r = parts (open_word r) 0 0 r (omega arith) (omega arith) (omega arith)
+opened r = parts _ _ _ _ (omega arith) (omega arith) (omega arith)
 
 pub shut : (r : ℕ) → Parts (shut_word r) 0 1 r
-shut r = parts (shut_word r) 0 1 r (omega arith) (omega arith) (omega arith)
+shut r = parts _ _ _ _ (omega arith) (omega arith) (omega arith)
 
 pub marked : (n : ℕ) → mark_of n < 2 → Parts (bit_or n 65536) (count_of n) 1 (round_of n)
-marked n small = parts (bit_or n 65536) (count_of n) 1 (round_of n) (omega arith) (omega arith)
+marked n small = parts _ _ _ _ (omega arith) (omega arith)
     (omega (arith, whole n, or_add_and n 65536, and_pow n 16))
