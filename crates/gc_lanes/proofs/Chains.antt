@@ -1,9 +1,5 @@
 -- The message schedules of blocks that follow one another.
-use Rattle.std.proofs.Common.{◌≡◌, ℕ, zero, suc, ◌+◌, ◌*◌, ◌%◌, ◌^◌, ◌<◌, List, drop, slice_index, take, ap, refl, sym, ◌∙◌, add-one, add-zero, arith}
-use Rattle.std.proofs.lemmas.List.{drop-drop, drop-take, get_or-drop, get_or-take, take-take}
-use Rattle.sha2.specs.Sha256.{compress, hash_after, round, round_constants, rounds, word_at}
-use Rattle.sha2.proofs.Schedule256.{slice_index-schedule_first}
-use Rattle.gc_lanes.specs.Chain.{block_at, scheduled}
+use Rattle.gc_lanes.proofs.Names.{◌≤◌, ◌-◌, ◌≡◌, ℕ, zero, suc, ◌+◌, ◌*◌, ◌%◌, ◌^◌, ◌<◌, List, drop, slice_index, take, ap, refl, sym, ◌∙◌, add-one, add-zero, arith, drop-drop, drop-take, get_or-drop, get_or-take, take-take, compress, hash_after, round, round_constants, rounds, word_at, slice_index-schedule_first, block_at, scheduled}
 use native.Mathlib.Nat.{mod-eq_of_lt}
 
 -- byte k of block j
@@ -31,16 +27,29 @@ pub rounds-more : (h ws : List ℕ) (t : ℕ)
 unfolding rounds
 rounds-more h ws t = rw add-one refl
 
+-- no block
+pub hash_after_none : (h p : List ℕ) → hash_after h p 0 ≡ h
+unfolding hash_after
+hash_after_none h p = refl
+
 -- one block more
-pub hash_after-more : (h p : List ℕ) (n : ℕ)
+pub hash_after_more : (h p : List ℕ) (n : ℕ)
     → hash_after h p (n + 1) ≡ compress (hash_after h p n) (block_at p n)
 unfolding hash_after
-hash_after-more h p n = rw add-one refl
+hash_after_more h p n = rw add-one refl
 
 -- A word that was read at a block's byte is the word in its lane.
 pub lane-word : (p : List ℕ) (j t s w : ℕ) → w < 2 ^ 32 → w ≡ word_at p s → t < 16
     → s ≡ j * 64 + 4 * t → w % 2 ^ 32 ≡ scheduled p j t
 lane-word p j t s w fits is lt e = mod-eq_of_lt fits ∙ is ∙ scheduled-first p j t s lt e
+
+-- a part of what a list begins with
+pub part-of : (b x : List ℕ) (k a w : ℕ) → take k b ≡ x → a + w ≤ k
+    → take w (drop a b) ≡ take w (drop a x)
+part-of b x k a w begins le =
+    let all : k ≡ a + (k - a) = omega arith in
+    rw (← begins, all, drop-take a (k - a) b)
+    (sym (take-take w (k - a) (drop a b) (omega arith)))
 
 -- Blocks after the first n, with which q begins.
 pub hash_after-joined : (h p q : List ℕ) (n k : ℕ)
@@ -50,16 +59,22 @@ unfolding hash_after
 hash_after-joined h p q n zero is = rw add-zero refl
 hash_after-joined h p q n (suc k) is =
     let rest : List ℕ = drop (n * 64) p in
-    let all : suc k * 64 ≡ k * 64 + 64 = omega arith in
+    let part = λ (a w : ℕ) (le : a + w ≤ suc k * 64). part-of q _ (suc k * 64) a w is le
+    ∙ sym (part-of rest _ (suc k * 64) a w refl le) in
+    let next : n + suc k ≡ suc (n + k) = omega arith in
     let from : n * 64 + k * 64 ≡ (n + k) * 64 = omega arith in
-    let next : suc (n + k) ≡ n + suc k = omega arith in
-    let same : take (k * 64 + 64) q ≡ take (k * 64 + 64) rest = rw all at is in
-    let fewer : take (k * 64) q ≡ take (k * 64) rest =
-    sym (take-take (k * 64) (k * 64 + 64) q (omega arith)) ∙ ap (take (k * 64)) same
-    ∙ take-take (k * 64) (k * 64 + 64) rest (omega arith) in
-    let before = hash_after-joined h p q n k fewer in
-    let block : take 64 (drop (k * 64) q) ≡ take 64 (drop ((n + k) * 64) p) =
-    sym (drop-take (k * 64) 64 q) ∙ ap (drop (k * 64)) same ∙ drop-take (k * 64) 64 rest
-    ∙ ap (take 64) (drop-drop (k * 64) (n * 64) p)
-    ∙ ap (λ (z : ℕ). take 64 (drop z p)) from in
-    (λ i. compress (before i) (block i)) ∙ ap (hash_after h p) next
+    rw (
+      next,
+      hash_after-joined h p q n k (part 0 (k * 64) (omega arith)),
+      part (k * 64) 64 (omega arith),
+      drop-drop (k * 64) (n * 64) p,
+      from,
+    ) refl
+
+-- Blocks of p from the first n on: those that x begins with, and then those that y begins with.
+pub hash_after-twice : (h p x y : List ℕ) (n i k all : ℕ) → all ≡ n + i + k
+    → take (i * 64) x ≡ take (i * 64) (drop (n * 64) p)
+    → take (k * 64) y ≡ take (k * 64) (drop ((n + i) * 64) p)
+    → hash_after (hash_after (hash_after h p n) x i) y k ≡ hash_after h p all
+hash_after-twice h p x y n i k all sum one two =
+    rw (sum, hash_after-joined h p x n i one) (hash_after-joined h p y (n + i) k two)

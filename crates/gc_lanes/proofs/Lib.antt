@@ -1,3 +1,4 @@
+pub mod Names
 pub mod Bits
 pub mod Chains
 pub mod Messages

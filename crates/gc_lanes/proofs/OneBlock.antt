@@ -1,11 +1,6 @@
 -- A label and its tweak are a message of one block. A label is seen as the number that its 16 bytes spell.
-use Rattle.std.proofs.Common.{◌≡◌, ℕ, ◌^◌, ◌<◌, List, [], ◌∷◌, ◌++◌, length, get_or, replicate, slice_index, take, arith, refl, sym}
-use Rattle.std.proofs.lemmas.List.{get_or-map}
-use Rattle.std.specs.Int.{w64, w128, from_be_bytes, to_be_bytes, to_le_bytes}
-use Rattle.sha2.specs.Sha256.{IsWindow, compress, digest_bytes, first_words, hash_after, initial_hash_256, schedule, sha256}
-use Rattle.sha2.proofs.Schedule256.{IsWindow_first, slice_index-first_words}
+use Rattle.gc_lanes.proofs.Names.{◌≡◌, ℕ, ◌^◌, ◌<◌, List, [], ◌∷◌, ◌++◌, length, get_or, replicate, slice_index, take, arith, refl, sym, get_or-map, w64, w128, from_be_bytes, to_be_bytes, to_le_bytes, IsWindow, compress, digest_bytes, first_words, hash_after, initial_hash_256, schedule, sha256, IsWindow_first, slice_index-first_words, label_of_low_words, last_words, low_words, words_of_lane}
 use Rattle.gc_lanes.specs.Hash.{padded_words, tweaked_hash}
-use Rattle.gc_lanes.specs.Lanes.{label_of_low_words, last_words, low_words, words_of_lane}
 
 -- the block of a label and a tweak, with the padding of their 24 bytes
 abbrev pub block : ℕ → ℕ → List ℕ

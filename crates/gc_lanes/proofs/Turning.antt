@@ -1,7 +1,5 @@
 -- Vectors word by word.
-use Rattle.std.proofs.Common.{◌≡◌, ℕ, ◌/◌, ◌%◌, ◌^◌, ◌<◌, List, [], ◌∷◌, length, get_or, map, arith, below_more, below_none}
-use Rattle.std.proofs.lemmas.Grind.{common_steps}
-use Rattle.gc_lanes.specs.Lanes.{low_words}
+use Rattle.gc_lanes.proofs.Names.{◌≡◌, ℕ, ◌/◌, ◌%◌, ◌^◌, ◌<◌, List, [], ◌∷◌, length, get_or, map, arith, below_more, below_none, common_steps, low_words}
 
 -- what holds of each number below eight
 pub below_eight : (P : ℕ → Type 0) → P 0 → P 1 → P 2 → P 3 → P 4 → P 5 → P 6 → P 7
@@ -10,14 +8,6 @@ below_eight P a b c d e f g h =
     let low = below_more P 2 (below_more P 1 (below_more P 0 (below_none P) a) b) c in
     let high = below_more P 5 (below_more P 4 (below_more P 3 low d) e) f in
     below_more P 7 (below_more P 6 high g) h
-
--- eight words, one by one
-abbrev pub eight : List ℕ → List ℕ
-eight v = get_or v 0 0 ∷ get_or v 1 0 ∷ get_or v 2 0 ∷ get_or v 3 0 ∷ get_or v 4 0 ∷ get_or v 5 0
-    ∷ get_or v 6 0 ∷ get_or v 7 0 ∷ []
-
-pub eight-is : (v : List ℕ) → length v ≡ 8 → v ≡ eight v
-eight-is v n = grind (arith, common_steps)
 
 -- What a function has of each of four vectors is a column.
 pub column-is : (f : List ℕ → ℕ) (words : List (List ℕ)) → length words ≡ 4

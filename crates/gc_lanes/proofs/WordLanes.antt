@@ -1,10 +1,6 @@
 -- What the operations of a vector of words are in each of its lanes.
-use Rattle.std.proofs.Common.{◌≡◌, ℕ, ◌<◌, ◌%◌, ◌^◌, List, length, map, ap, ◌∙◌, arith}
-use Rattle.std.proofs.lemmas.List.{get_or-map}
-use Rattle.std.proofs.lemmas.Simd.{Each1-get_or, get_or-zip2}
-use Rattle.std.specs.Int.{w32}
+use Rattle.gc_lanes.proofs.Names.{◌≡◌, ℕ, ◌<◌, ◌%◌, ◌^◌, List, length, map, ap, ◌∙◌, arith, get_or-map, Each1-get_or, get_or-zip2, w32, lane}
 use Rattle.std.specs.Simd.Lanes.{zip2, Each1}
-use Rattle.gc_lanes.specs.Lanes.{lane}
 use mir.Val.{Fits}
 use native.Mathlib.Nat.{mod-eq_of_lt}
 

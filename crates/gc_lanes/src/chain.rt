@@ -137,6 +137,7 @@ fn compress_one(rows: &Schedules, block: usize, hash: &mut [u32; 8])
 }
 
 /// Compresses the first `count` of eight blocks, given their schedules.
+#[tactic(auto, using(crate::proofs::Chains::hash_after_none, crate::proofs::Chains::hash_after_more))]
 #[inline(always)]
 fn compress_each(rows: &Schedules, hash: &mut [u32; 8], count: usize)
     requires { count ≤ 8 }

@@ -6,6 +6,7 @@ ghost use Rattle.sha2.specs.Sha256.{big_sigma0, big_sigma1, ch, maj, small_sigma
 use crate::words::Words;
 
 /// Ch: the bit of `y` where that of `x` is 1, else that of `z`.
+#[tactic(auto, using(crate::proofs::Bits::ch_three))]
 #[inline(always)]
 pub(crate) fn ch<W: Words>(x: W, y: W, z: W) -> W
     ensures { (j : ℕ) → j < W.lanes → W.lane result j ≡ ch (W.lane x j) (W.lane y j) (W.lane z j) }
@@ -15,6 +16,7 @@ pub(crate) fn ch<W: Words>(x: W, y: W, z: W) -> W
 
 /// Maj: the bit that at least two of the three have. The next round reads `x` and `y` as its `y` and `z`, so
 /// the compiler computes their exclusive or once.
+#[tactic(auto, using(crate::proofs::Bits::maj_three))]
 #[inline(always)]
 pub(crate) fn maj<W: Words>(x: W, y: W, z: W) -> W
     ensures { (j : ℕ) → j < W.lanes → W.lane result j ≡ maj (W.lane x j) (W.lane y j) (W.lane z j) }

@@ -3,6 +3,7 @@
 ghost use Rattle.std.specs.Prelude.{◌≡◌, ◌∷◌, [], ℕ, slice_index};
 ghost use Rattle.sha2.specs.Sha256.{add32, add_state, big_sigma0, big_sigma1, ch, maj, round};
 
+#[tactic(auto, using(crate::proofs::Bits::ch_three))]
 #[inline(always)]
 fn ch(x: u32, y: u32, z: u32) -> u32
     ensures { result ≡ ch x y z }
@@ -11,6 +12,7 @@ fn ch(x: u32, y: u32, z: u32) -> u32
 }
 
 /// The next round reads `x` and `y` as its `y` and `z`, so the compiler computes their exclusive or once.
+#[tactic(auto, using(crate::proofs::Bits::maj_three))]
 #[inline(always)]
 fn maj(x: u32, y: u32, z: u32) -> u32
     ensures { result ≡ maj x y z }

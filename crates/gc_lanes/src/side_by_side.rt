@@ -58,6 +58,7 @@ fn compress_lanes<W: Words>(state: &State<W>, window: &Window<W>) -> State<W>
 }
 
 /// The hash value of each message after its first `bytes` bytes, which are whole blocks.
+#[tactic(auto, using(crate::proofs::Chains::hash_after_none, crate::proofs::Chains::hash_after_more))]
 pub(crate) fn hash_lanes(messages: &[&[u8]; 8], bytes: usize) -> State<u32x8>
     requires blocks { bytes % 64 ≡ 0 }
     requires all { AreLonger (map (λ message. message.now) messages.now) bytes }

@@ -85,12 +85,14 @@ impl<const N: usize> Words for Simd<u32, N> {
         self & other
     }
 
+    #[tactic(auto, using(std::proofs::lemmas::Simd::shifts_fit_splat))]
     #[inline(always)]
     fn shift_right(self, count: u32) -> Self {
         self >> Simd::splat(count)
     }
 
     // Two shifts make a rotation.
+    #[tactic(auto, using(std::proofs::lemmas::Simd::shifts_fit_splat))]
     #[inline(always)]
     fn rotate_right(self, count: u32) -> Self {
         (self >> Simd::splat(count)) | (self << Simd::splat(32 - count))

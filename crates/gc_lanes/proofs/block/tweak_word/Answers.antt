@@ -1,4 +1,4 @@
-use Rattle.std.proofs.Common.{◌∙◌, arith, below_more}
+use Rattle.gc_lanes.proofs.Names.{◌∙◌, arith, below_more}
 use Rattle.gc_lanes.proofs.block.tweak_word.Goals as goal
 
 pub loop-j-preserved : goal.loop-j-preserved

@@ -1,6 +1,4 @@
-use Rattle.std.proofs.Common.{◌≡◌, ◌<◌, ℕ, slice_index}
-use Rattle.std.specs.Int.{to_le_bytes, w64}
-use Rattle.sha2.specs.Sha256.{word_at}
+use Rattle.gc_lanes.proofs.Names.{◌≡◌, ◌<◌, ℕ, slice_index, to_le_bytes, w64, word_at}
 use Rattle.gc_lanes.proofs.block.tweak_word.Given as goal
 
 abbrev pub invariant-loop-j : goal.invariant-loop-j

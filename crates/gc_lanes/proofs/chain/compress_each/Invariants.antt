@@ -1,6 +1,4 @@
-use Rattle.std.proofs.Common.{◌≡◌, List, ℕ}
-use Rattle.sha2.specs.Sha256.{hash_after}
-use Rattle.gc_lanes.specs.Chain.{AreSchedules}
+use Rattle.gc_lanes.proofs.Names.{◌≡◌, List, ℕ, hash_after, AreSchedules}
 use Rattle.gc_lanes.proofs.chain.compress_each.Given as goal
 
 abbrev pub invariant-chain : goal.invariant-chain

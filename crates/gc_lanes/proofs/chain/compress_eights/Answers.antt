@@ -1,6 +1,4 @@
-use Rattle.std.proofs.Common.{◌≡◌, ◌+◌, ◌-◌, ◌*◌, ◌/◌, List, ℕ, length, take, drop, ap, refl, ◌∙◌, arith}
-use Rattle.std.proofs.lemmas.List.{take-take}
-use Rattle.sha2.specs.Sha256.{hash_after}
+use Rattle.gc_lanes.proofs.Names.{◌≡◌, ◌+◌, ◌-◌, ◌*◌, ◌/◌, List, ℕ, length, take, drop, ap, refl, ◌∙◌, arith, take-take, hash_after}
 use Rattle.gc_lanes.proofs.Chains.{hash_after-joined}
 use Rattle.gc_lanes.proofs.chain.compress_eights.Goals as goal
 
@@ -22,8 +20,3 @@ parts-preserved c =
     ∙ hash_after-joined c.args.hash.now p eight n 8
     (rw (width, start) (take-take 512 512 (drop (512 * c.parts.part) p) (omega arith)))
     ∙ ap (hash_after c.args.hash.now p) more
-
-pub returns : goal.returns
-returns c =
-    let all : 8 * c.parts.part ≡ length c.args.blocks.now / 64 = omega arith in
-    rw all at c.parts.invariant

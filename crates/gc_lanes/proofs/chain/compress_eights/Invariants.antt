@@ -1,5 +1,4 @@
-use Rattle.std.proofs.Common.{◌≡◌, ◌*◌}
-use Rattle.sha2.specs.Sha256.{hash_after}
+use Rattle.gc_lanes.proofs.Names.{◌≡◌, ◌*◌, hash_after}
 use Rattle.gc_lanes.proofs.chain.compress_eights.Given as goal
 
 abbrev pub invariant-parts : goal.invariant-parts

@@ -1,5 +1,4 @@
-use Rattle.std.proofs.Common.{ap, refl, ◌∙◌}
-use Rattle.sha2.specs.Sha256.{add_state, compress, rounds}
+use Rattle.gc_lanes.proofs.Names.{ap, refl, ◌∙◌, add_state, compress, rounds}
 use Rattle.gc_lanes.proofs.chain.compress_one.Goals as goal
 
 pub returns : goal.returns

@@ -1,6 +1,4 @@
-use Rattle.std.proofs.Common.{◌-◌, arith}
-use Rattle.sha2.proofs.Schedule256.{slice_index-schedule_next}
-use Rattle.gc_lanes.specs.Chain.{block_at}
+use Rattle.gc_lanes.proofs.Names.{◌-◌, arith, slice_index-schedule_next, block_at}
 use Rattle.gc_lanes.proofs.chain.next_words.Goals as goal
 
 pub returns : goal.returns

@@ -1,6 +1,4 @@
-use Rattle.std.proofs.Common.{arith}
-use Rattle.sha2.specs.Sha256.{schedule}
-use Rattle.gc_lanes.specs.Chain.{block_at}
+use Rattle.gc_lanes.proofs.Names.{arith, schedule, block_at}
 use Rattle.gc_lanes.proofs.Chains.{rounds-more}
 use Rattle.gc_lanes.proofs.chain.round_of.Goals as goal
 

@@ -1,7 +1,4 @@
-use Rattle.std.proofs.Common.{◌≡◌, ◌<◌, [], ℕ, List, get_or, length, slice_index}
-use Rattle.sha2.specs.Sha256.{add32, round_constants}
-use Rattle.gc_lanes.specs.Chain.{scheduled}
-use Rattle.gc_lanes.specs.Lanes.{lane}
+use Rattle.gc_lanes.proofs.Names.{◌≡◌, ◌<◌, [], ℕ, List, get_or, length, slice_index, add32, round_constants, scheduled, lane}
 use Rattle.gc_lanes.proofs.chain.schedules.Given as goal
 
 -- The first t words and rows of each block's schedule are computed.

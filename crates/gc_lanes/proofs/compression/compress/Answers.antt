@@ -1,5 +1,4 @@
-use Rattle.std.proofs.Common.{◌∙◌}
-use Rattle.sha2.specs.Sha256.{add_state, compress, rounds}
+use Rattle.gc_lanes.proofs.Names.{◌∙◌, add_state, compress, rounds}
 use Rattle.gc_lanes.proofs.compression.compress.Goals as goal
 
 pub returns : goal.returns

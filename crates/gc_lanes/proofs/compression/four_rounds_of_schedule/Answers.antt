@@ -1,5 +1,4 @@
-use Rattle.std.proofs.Common.{arith}
-use Rattle.sha2.proofs.Schedule256.{IsRoundsAt_at}
+use Rattle.gc_lanes.proofs.Names.{arith, IsRoundsAt_at}
 use Rattle.gc_lanes.proofs.compression.four_rounds_of_schedule.Goals as goal
 
 pub returns : goal.returns

@@ -1,5 +1,4 @@
-use Rattle.std.proofs.Common.{arith, refl}
-use Rattle.sha2.proofs.Schedule256.{rounds_first}
+use Rattle.gc_lanes.proofs.Names.{arith, refl, rounds_first}
 use Rattle.gc_lanes.proofs.OneBlock.{lane_at}
 use Rattle.gc_lanes.proofs.compression.round_of_block.Goals as goal
 

@@ -1,7 +1,4 @@
-use Rattle.std.proofs.Common.{◌∙◌, ap, refl}
-use Rattle.std.proofs.lemmas.List.{map-set}
-use Rattle.sha2.proofs.Schedule256.{rounds_window}
-use Rattle.gc_lanes.specs.Lanes.{words_of_lane}
+use Rattle.gc_lanes.proofs.Names.{◌∙◌, ap, refl, map-set, rounds_window, words_of_lane}
 use Rattle.gc_lanes.proofs.compression.round_of_schedule.Goals as goal
 
 pub returns : goal.returns

@@ -1,5 +1,4 @@
-use Rattle.std.proofs.Common.{arith, below_more}
-use Rattle.std.proofs.lemmas.List.{get_or-map}
+use Rattle.gc_lanes.proofs.Names.{arith, below_more, get_or-map}
 use Rattle.gc_lanes.proofs.digests.bytes_side_by_side.Goals as goal
 
 pub lengths-preserved : goal.lengths-preserved

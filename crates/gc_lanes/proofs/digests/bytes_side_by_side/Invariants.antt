@@ -1,4 +1,4 @@
-use Rattle.std.proofs.Common.{◌<◌, ◌≤◌, [], ℕ, get_or, length, map}
+use Rattle.gc_lanes.proofs.Names.{◌<◌, ◌≤◌, [], ℕ, get_or, length, map}
 use Rattle.gc_lanes.proofs.digests.bytes_side_by_side.Given as goal
 
 abbrev pub invariant-lengths : goal.invariant-lengths

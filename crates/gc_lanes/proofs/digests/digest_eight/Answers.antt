@@ -1,7 +1,4 @@
-use Rattle.std.proofs.Common.{◌≡◌, ◌+◌, ◌<◌, ℕ, List, [], get_or, length, map, slice_set, take, rules, arith, sym, ◌∙◌}
-use Rattle.std.proofs.lemmas.Grind.{common_steps}
-use Rattle.std.proofs.lemmas.List.{get_or-map}
-use Rattle.sha2.specs.Sha256.{sha256}
+use Rattle.gc_lanes.proofs.Names.{◌≡◌, ◌+◌, ◌<◌, ℕ, List, [], get_or, length, map, slice_set, take, rules, arith, sym, ◌∙◌, common_steps, get_or-map, sha256}
 use Rattle.gc_lanes.proofs.digests.digest_eight.Goals as goal
 
 -- one item more

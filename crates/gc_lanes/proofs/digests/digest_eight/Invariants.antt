@@ -1,5 +1,4 @@
-use Rattle.std.proofs.Common.{◌≡◌, length, map, take}
-use Rattle.sha2.specs.Sha256.{sha256}
+use Rattle.gc_lanes.proofs.Names.{◌≡◌, length, map, take, sha256}
 use Rattle.gc_lanes.proofs.digests.digest_eight.Given as goal
 
 abbrev pub invariant-messages : goal.invariant-messages

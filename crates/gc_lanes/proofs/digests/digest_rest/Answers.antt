@@ -1,5 +1,4 @@
-use Rattle.std.proofs.Common.{take, arith, refl}
-use Rattle.std.proofs.lemmas.List.{take-append-drop, take_rest}
+use Rattle.gc_lanes.proofs.Names.{take, arith, refl, take-append-drop, take_rest}
 use Rattle.gc_lanes.proofs.Messages.{holds-buffers}
 use Rattle.gc_lanes.proofs.digests.digest_rest.Goals as goal
 

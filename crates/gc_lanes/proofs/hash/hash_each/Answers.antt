@@ -1,6 +1,4 @@
-use Rattle.std.proofs.Common.{◌∙◌, rules}
-use Rattle.std.specs.Int.{to_be_bytes, to_le_bytes, w64, w128}
-use Rattle.sha2.specs.Sha256.{initial_hash_256}
+use Rattle.gc_lanes.proofs.Names.{◌∙◌, rules, to_be_bytes, to_le_bytes, w64, w128, initial_hash_256}
 use Rattle.gc_lanes.proofs.OneBlock.{IsWindow-padded_words, block, label-hash, last_words-label}
 use Rattle.gc_lanes.proofs.hash.hash_each.Goals as goal
 

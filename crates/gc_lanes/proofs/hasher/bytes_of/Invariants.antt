@@ -1,5 +1,4 @@
-use Rattle.std.proofs.Common.{◌≡◌, ◌*◌, length, take}
-use Rattle.sha2.specs.Sha256.{digest_bytes}
+use Rattle.gc_lanes.proofs.Names.{◌≡◌, ◌*◌, length, take, digest_bytes}
 use Rattle.gc_lanes.proofs.hasher.bytes_of.Given as goal
 
 abbrev pub invariant-words : goal.invariant-words

@@ -1,5 +1,4 @@
-use Rattle.std.proofs.Common.{◌-◌, ◌%◌, arith}
-use Rattle.sha2.proofs.Absorbing256.{padding-take}
+use Rattle.gc_lanes.proofs.Names.{◌-◌, ◌%◌, arith, padding-take}
 use Rattle.gc_lanes.proofs.hasher.padding.Goals as goal
 
 pub returns : goal.returns

@@ -1,5 +1,4 @@
-use Rattle.std.proofs.Common.{ℕ, ap, ◌∙◌, rules}
-use Rattle.gc_lanes.specs.Lanes.{label_of_low_words, lane}
+use Rattle.gc_lanes.proofs.Names.{ℕ, ap, ◌∙◌, rules, label_of_low_words, lane}
 use Rattle.gc_lanes.proofs.Turning.{below_eight, column-is}
 use Rattle.gc_lanes.proofs.labels.labels_of_eight.Goals as goal
 

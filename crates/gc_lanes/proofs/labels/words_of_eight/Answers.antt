@@ -1,5 +1,4 @@
-use Rattle.std.proofs.Common.{List, [], ◌∷◌, ◌++◌, ℕ, ◌∙◌}
-use Rattle.gc_lanes.specs.Lanes.{column}
+use Rattle.gc_lanes.proofs.Names.{List, [], ◌∷◌, ◌++◌, ℕ, ◌∙◌, column}
 use Rattle.gc_lanes.proofs.Turning.{below_eight, low_words-fit}
 use Rattle.gc_lanes.proofs.labels.words_of_eight.Goals as goal
 

@@ -1,6 +1,4 @@
-use Rattle.std.proofs.Common.{◌≡◌, ◌+◌, ◌*◌, ◌<◌, [], ℕ, get_or, length, map}
-use Rattle.sha2.specs.Sha256.{word_at}
-use Rattle.gc_lanes.specs.Lanes.{lane}
+use Rattle.gc_lanes.proofs.Names.{◌≡◌, ◌+◌, ◌*◌, ◌<◌, [], ℕ, get_or, length, map, word_at, lane}
 use Rattle.gc_lanes.proofs.side_by_side.fill_window.Given as goal
 
 abbrev pub invariant-words : goal.invariant-words

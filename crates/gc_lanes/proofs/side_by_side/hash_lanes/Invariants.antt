@@ -1,4 +1,4 @@
-use Rattle.std.proofs.Common.{map}
+use Rattle.gc_lanes.proofs.Names.{map}
 use Rattle.gc_lanes.specs.SideBySide.{AreHashed}
 use Rattle.gc_lanes.proofs.side_by_side.hash_lanes.Given as goal
 

@@ -1,8 +1,5 @@
-use Rattle.std.proofs.Common.{◌≡◌, ◌+◌, ◌-◌, ◌%◌, ◌<◌, ◌≤◌, ℕ, List, [], ◌++◌, length, take, drop, arith, refl, ◌∙◌, length-append, length-drop}
-use Rattle.std.proofs.lemmas.List.{append-nil, drop_all, length-take-le, take_rest}
+use Rattle.gc_lanes.proofs.Names.{common_steps, ◌≡◌, ◌+◌, ◌-◌, ◌%◌, ◌<◌, ◌≤◌, ℕ, List, [], ◌++◌, length, take, drop, arith, refl, ◌∙◌, length-append, length-drop, append-nil, drop_all, length-take-le, take_rest, initial_hash_256, total_append}
 use Rattle.std.proofs.lemmas.Slice.{take-put_mid}
-use Rattle.sha2.specs.Sha256.{initial_hash_256}
-use Rattle.sha2.proofs.Absorbing256.{total_append}
 use Rattle.gc_lanes.proofs.Messages.{hashed-long, hashed-short, left-long, left-short}
 use borrow.Rule.Slice.PartMut.{post_of, put_mid}
 use Rattle.gc_lanes.proofs.hasher.LongSha256.absorb.Goals as goal
@@ -38,13 +35,7 @@ returns c = λ m held.
     let filled : put_mid used room s.buffer c.copy_from_slice-2.new.self ≡ before =
     rw (full, append-nil c.copy_from_slice-2.new.self, c.copy_from_slice-2.ensures.after, is)
     refl in
-    let wide : length before ≡ 4096 =
-    omega (
-      arith,
-      length-append (take (length m % 4096) s.buffer) (take room d),
-      length-take-le (length m % 4096) s.buffer (omega arith),
-      length-take-le room d fits,
-    ) in
+    let wide : length before ≡ 4096 = grind (arith, common_steps) in
     let middle : length (take (end - room) (drop room d)) ≡ end - room =
     length-take-le (end - room) (drop room d) (omega (arith, length-drop room d)) in
     let first = rw (filled, wide, held.hashed) at c.compress_eights.ensures in

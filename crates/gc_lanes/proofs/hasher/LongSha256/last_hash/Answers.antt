@@ -1,6 +1,4 @@
-use Rattle.std.proofs.Common.{◌≡◌, ◌+◌, ◌-◌, ◌%◌, ℕ, length, take, arith, refl, ◌∙◌}
-use Rattle.std.proofs.lemmas.List.{length-take-le}
-use Rattle.sha2.specs.Sha256.{initial_hash_256}
+use Rattle.gc_lanes.proofs.Names.{◌≡◌, ◌+◌, ◌-◌, ◌%◌, ℕ, length, take, arith, refl, ◌∙◌, length-take-le, initial_hash_256}
 use Rattle.gc_lanes.proofs.Messages.{hashed-left}
 use Rattle.gc_lanes.proofs.hasher.LongSha256.last_hash.Goals as goal
 

@@ -1,6 +1,4 @@
-use Rattle.std.proofs.Common.{◌≡◌, ◌*◌, ◌%◌, ◌^◌, ◌++◌, ℕ, List, length, arith, refl, ap, ◌∙◌}
-use Rattle.std.proofs.lemmas.List.{append_assoc}
-use Rattle.sha2.specs.Sha256.{digest_bytes, padded_message, sha256}
+use Rattle.gc_lanes.proofs.Names.{◌≡◌, ◌*◌, ◌%◌, ◌^◌, ◌++◌, ℕ, List, length, arith, refl, ap, ◌∙◌, append_assoc, digest_bytes, padded_message, sha256}
 use Rattle.gc_lanes.proofs.hasher.LongSha256Digest.finalize.Goals as goal
 
 pub returns : goal.returns

@@ -1,5 +1,4 @@
-use Rattle.std.proofs.Common.{refl}
-use Rattle.sha2.specs.Sha256.{hash_after}
+use Rattle.gc_lanes.proofs.Names.{refl, hash_after}
 use Rattle.gc_lanes.proofs.hasher.LongSha256Digest.new.Goals as goal
 
 pub returns : goal.returns

@@ -1,5 +1,4 @@
-use Rattle.std.proofs.Common.{bit_and}
-use Rattle.std.proofs.lemmas.Nat.{and_mod}
+use Rattle.gc_lanes.proofs.Names.{bit_and, and_mod}
 use Rattle.gc_lanes.proofs.WordLanes.{lane-zip2}
 use Rattle.gc_lanes.proofs.words.SimdU32Words.and.Goals as goal
 

@@ -1,14 +1,7 @@
-use Rattle.std.proofs.Common.{◌≡◌, ◌%◌, ◌-◌, arith}
-use Rattle.std.proofs.lemmas.Simd.{shifts_fit_splat, zip2-map, zip2_splat}
+use Rattle.gc_lanes.proofs.Names.{◌≡◌, ◌%◌, ◌-◌, arith, zip2-map, zip2_splat}
 use Rattle.gc_lanes.proofs.Rotations.{rotated, rotated-lt}
 use Rattle.gc_lanes.proofs.WordLanes.{lane-map}
 use Rattle.gc_lanes.proofs.words.SimdU32Words.rotate_right.Goals as goal
-
-pub overflow_shr-result : goal.overflow_shr-result
-overflow_shr-result g c = shifts_fit_splat 32 _ _ _ c.requires.below
-
-pub overflow_shl-result : goal.overflow_shl-result
-overflow_shl-result g c = shifts_fit_splat 32 _ _ _ (omega (arith, c.requires.above))
 
 -- two shifts rotate
 pub returns : goal.returns

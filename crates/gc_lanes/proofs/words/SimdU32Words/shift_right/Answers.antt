@@ -1,11 +1,6 @@
-use Rattle.std.proofs.Common.{ℕ, ◌/◌, ◌^◌, arith}
-use Rattle.std.proofs.lemmas.Nat.{shr_le}
-use Rattle.std.proofs.lemmas.Simd.{shifts_fit_splat, zip2_splat}
+use Rattle.gc_lanes.proofs.Names.{ℕ, ◌/◌, ◌^◌, arith, shr_le, zip2_splat}
 use Rattle.gc_lanes.proofs.WordLanes.{lane-map}
 use Rattle.gc_lanes.proofs.words.SimdU32Words.shift_right.Goals as goal
-
-pub overflow_shr-result : goal.overflow_shr-result
-overflow_shr-result g c = shifts_fit_splat 32 _ _ _ c.requires
 
 pub returns : goal.returns
 returns g c =

@@ -1,5 +1,4 @@
-use Rattle.std.proofs.Common.{bit_xor}
-use Rattle.std.proofs.lemmas.Nat.{xor_mod}
+use Rattle.gc_lanes.proofs.Names.{bit_xor, xor_mod}
 use Rattle.gc_lanes.proofs.WordLanes.{lane-zip2}
 use Rattle.gc_lanes.proofs.words.SimdU32Words.xor.Goals as goal
 
