@@ -1,14 +1,6 @@
 -- The canonical text of a lawful circuit spells it.
-use Rattle.std.proofs.Common.{◌≡◌, ◌≤◌, ℕ, suc, ◌+◌, ◌<◌, ◌^◌, List, [], ◌∷◌, map, sum, slice_get, append_assoc, Some, refl, arith}
-use Rattle.std.specs.List.{flat_map, AllByRecursion}
+use Rattle.gc_netlist.proofs.CommonNames.{◌≡◌, ◌≤◌, ℕ, suc, ◌+◌, ◌<◌, ◌^◌, List, [], ◌∷◌, map, sum, slice_get, append_assoc, Some, refl, arith, flat_map, AllByRecursion, sum_by-cons, MAX_WIRES, Operation, Gate, Netlist, EachRead, IsLawful, tokens, Number, Spells, words_of_operation, words_of_gate, words_of_circuit}
 use Rattle.std.proofs.lemmas.List.Folds.{flat_map-map}
-use Rattle.std.proofs.lemmas.List.Sums.{sum_by-cons}
-use Rattle.gc_netlist.specs.declared.limits.TheConstants.{MAX_WIRES}
-use Rattle.gc_netlist.specs.declared.gate.Operation.{Operation}
-use Rattle.gc_netlist.specs.declared.gate.Gate.{Gate}
-use Rattle.gc_netlist.specs.Circuit.{Netlist, EachRead, IsLawful}
-use Rattle.gc_netlist.specs.Text.{tokens}
-use Rattle.gc_netlist.specs.Spelling.{Number, Spells, words_of_operation, words_of_gate, words_of_circuit}
 use Rattle.gc_netlist.specs.Canon.{lines_of_circuit, canonical_text, CanonicalLaw}
 use Rattle.gc_netlist.proofs.Tables.{EachRead-below}
 use Rattle.gc_netlist.proofs.WrittenLemmas.{IsPlain, lines_spelled}

@@ -1,17 +1,6 @@
 -- What comes of reading a circuit: it is lawful and its words are spelled, or the first fault.
-use Rattle.std.proofs.Common.{◌≡◌, ℕ, zero, suc, ◌+◌, ◌-◌, ◌<◌, ◌≤◌, ◌++◌, inl, inr, List, [], ◌∷◌, length, length-append, append-nil, append_assoc, sum, Bool, true, false, Some, None, MatchResult, Result, Ok, Err, refl, sym, arith}
-use Rattle.std.specs.List.{flat_map, list_all, range_with_len}
-use Rattle.std.proofs.lemmas.Bool.{cases_eq, cases_Bool, both_ways}
+use Rattle.gc_netlist.proofs.CommonNames.{◌≡◌, ℕ, zero, suc, ◌+◌, ◌-◌, ◌<◌, ◌≤◌, ◌++◌, inl, inr, List, [], ◌∷◌, length, length-append, append-nil, append_assoc, sum, Bool, true, false, Some, None, MatchResult, Result, Ok, Err, refl, sym, arith, flat_map, list_all, range_with_len, cases_eq, cases_Bool, both_ways, ReadFault, OutputUnset, MAX_GATES, MAX_WIRES, MAX_VALUES, Gate, Netlist, netlist_of, input_wires, IsSet, IsLawful, Word, Number, SpellWords, words_of_gate, words_of_widths, words_of_circuit, ◌>>=◌, limited_at, widths_at, gate_at, is_set, check_gate, gates_at, check_outputs, check_end, circuit_of, without_outputs, IsBegun, words_so_far, SideDue, input_side, output_side, next_gate, number_of_gates, number_of_wires, FirstFault, output_unset, trailing, limited_left, widths_left, gate_left, wire_at_fault, IsMet}
 use Rattle.std.proofs.lemmas.List.Concat.{flat_map-append}
-use Rattle.gc_netlist.specs.declared.fault.ReadFault.{ReadFault}
-use Rattle.gc_netlist.specs.declared.fault.ReadFault.TheVariants.{OutputUnset}
-use Rattle.gc_netlist.specs.declared.limits.TheConstants.{MAX_GATES, MAX_WIRES, MAX_VALUES}
-use Rattle.gc_netlist.specs.declared.gate.Gate.{Gate}
-use Rattle.gc_netlist.specs.Circuit.{Netlist, netlist_of, input_wires, IsSet, IsLawful}
-use Rattle.gc_netlist.specs.Spelling.{Word, Number, SpellWords, words_of_gate, words_of_widths, words_of_circuit}
-use Rattle.gc_netlist.specs.Reading.{◌>>=◌, limited_at, widths_at, gate_at, is_set, check_gate, gates_at, check_outputs, check_end, circuit_of}
-use Rattle.gc_netlist.specs.FirstFault.{without_outputs, IsBegun, words_so_far, SideDue, input_side, output_side, next_gate, number_of_gates, number_of_wires, FirstFault, output_unset, trailing}
-use Rattle.gc_netlist.specs.Met.{limited_left, widths_left, gate_left, wire_at_fault, IsMet}
 use Rattle.gc_netlist.proofs.SpellingLemmas.{Spell-append, Spell-length, same_words}
 use Rattle.gc_netlist.proofs.LawfulLemmas.{checked_push, tested_set, set_tested, outputs_are_set, checked_lawful}
 use Rattle.gc_netlist.proofs.ReadingBack.{lawful_checked, checked_begun}
@@ -29,8 +18,7 @@ bind_goes P (Err e) f k l = k e refl
 begun_lawful : (c : Netlist) (u : Unit {0}) → IsBegun (length c.gates) c →
     check_outputs c ≡ Ok u → IsLawful c
 begun_lawful c u b ok =
-    checked_lawful c b.lawful.few_gates b.lawful.few_wires b.lawful.few_inputs b.lawful.inputs_fit
-    b.few_outputs b.outputs_fit (lawful_checked (without_outputs c) b.lawful)
+    checked_lawful (length c.gates) c (omega arith) (lawful_checked (without_outputs c) b.lawful)
     (outputs_are_set c u ok b.outputs_fit)
 
 -- the words of one gate more
@@ -104,9 +92,7 @@ module _ (ts : List (List ℕ)) where
           ∷ (words_of_widths c.input_widths ++ words_of_widths c.output_widths) in
           let checked = checked_push c.wires (input_wires c) c.gates g.0 u
           (lawful_checked (without_outputs c) b.0.lawful) ok in (
-            checked_begun n longer b.0.few_gates (omega (arith, length-append c.gates (g.0 ∷ [])))
-                b.0.lawful.few_wires b.0.lawful.few_inputs b.0.lawful.inputs_fit b.0.few_outputs
-                b.0.outputs_fit checked,
+            checked_begun n longer (omega (arith, b.0, length-append c.gates (g.0 ∷ []))) checked,
             same_words ts g.1 (words_so_far n longer) (words_so_far n c ++ words_of_gate g.0)
                 (words_push front c.gates g.0) next_spelled,
           )
@@ -187,8 +173,7 @@ module _ (ts : List (List ℕ)) where
           begun : (m : ℕ) → m ≤ count.0 →
               GatesRead count.0 (made []) m (gates_at wires.0 (sum inputs.0) m [] outputs.1)
           begun m within = gates_read count.0 m m (made []) outputs.1 (omega arith) within (
-            checked_begun count.0 (made []) counted.1 (omega arith) sized.1 i.1 i.2 o.1 o.2
-                (λ i g at. cc),
+            checked_begun count.0 (made []) (omega (arith, counted.1, sized.1, i, o)) (λ i g at. cc),
             same_words ts outputs.1 (front ++ []) front (append-nil front) o.0,
           )
 
@@ -268,14 +253,11 @@ module _ (ts : List (List ℕ)) where
   pub circuit_of-read : IsAnswer (circuit_of ts)
   unfolding circuit_of
   circuit_of-read =
-      bind_goes IsAnswer (limited_at MAX_GATES ts) _ (λ e bad. (count_met e bad).first) (λ n h1.
-      bind_goes IsAnswer (limited_at MAX_WIRES n.1) _ (λ e bad. (wires_met n h1 e bad).first)
-      (λ w h2. bind_goes IsAnswer (widths_at w.0 w.1) _
-      (λ e bad. (inputs_met n h1 w h2 e bad).first) (λ i h3.
-      bind_goes IsAnswer (widths_at w.0 i.1) _
-      (λ e bad. (outputs_due_met n h1 w h2 i h3 e bad).first) (λ o h4.
-      bind_goes IsAnswer (gates_at w.0 (sum i.0) n.0 [] o.1) _
-      (λ e bad. rw bad at (begun n h1 w h2 i h3 o h4 n.0 (omega arith)))
+      bind_goes IsAnswer _ _ (λ e bad. (count_met e bad).first) (λ n h1.
+      bind_goes IsAnswer _ _ (λ e bad. (wires_met n h1 e bad).first) (λ w h2.
+      bind_goes IsAnswer _ _ (λ e bad. (inputs_met n h1 w h2 e bad).first) (λ i h3.
+      bind_goes IsAnswer _ _ (λ e bad. (outputs_due_met n h1 w h2 i h3 e bad).first) (λ o h4.
+      bind_goes IsAnswer _ _ (λ e bad. rw bad at (begun n h1 w h2 i h3 o h4 n.0 (omega arith)))
       (λ g h5. ended n h1 w h2 i h3 o h4 g h5)))))
 
   -- What is read as a circuit is lawful and spelled so,

@@ -1,16 +1,5 @@
 -- A first fault is the fault that reading meets.
-use Rattle.std.proofs.Common.{◌≡◌, ◌⊎◌, ℕ, suc, ◌+◌, ◌-◌, ◌≤◌, ◌++◌, List, [], ◌∷◌, length, map, sum, nat_le, Bool, false, Result, Err, refl, arith, ◌≢◌, inl, inr}
-use Rattle.std.specs.List.{list_all, range_with_len}
-use Rattle.std.proofs.lemmas.Bool.Decides.{nat_tests}
-use Rattle.std.proofs.lemmas.Bool.{cases_Bool, false_from_ne_true}
-use Rattle.gc_netlist.specs.declared.fault.ReadFault.{ReadFault}
-use Rattle.gc_netlist.specs.declared.fault.ReadFault.TheVariants.{Truncated, BadNumber, TooLarge, BadShape, UnknownOperation, BadConstant, NoSuchWire, Unset, SetTwice, WidthsExceedWires}
-use Rattle.gc_netlist.specs.declared.limits.TheConstants.{MAX_GATES, MAX_VALUES}
-use Rattle.gc_netlist.specs.declared.gate.Gate.{Gate}
-use Rattle.gc_netlist.specs.Circuit.{Netlist, input_wires, output_wires, IsSet, IsLawful, EachRead}
-use Rattle.gc_netlist.specs.Spelling.{Word, Number, Name, SpellWords, words_of_gate, words_of_widths}
-use Rattle.gc_netlist.specs.Reading.{number_at, limited_at, numbers_at, widths_at, gate_at, is_set, check_gate, gates_at, check_outputs, circuit_of, operation_of_two, operation_of_one, two_at, one_at, check_read, check_set, check_reads}
-use Rattle.gc_netlist.specs.FirstFault.{without_outputs, SideDue, input_side, output_side, GateDue, next_gate, LimitedDue, number_of_gates, number_of_wires, number_of_values, IsCount, NumberDue, due_with_limit, due_as_width, due_in_gate, NameDue, due_as_name, FirstFault, no_number, no_name, bad_number, too_large, widths_exceed, bad_counts, unknown, other_counts, bad_constant, no_wire_to_read, unset, no_wire_to_set, set_twice, output_unset, trailing, wires_read, GateNumberDue, first_count, second_count, wire_number, IsNamed, IsFirstUnset}
+use Rattle.gc_netlist.proofs.CommonNames.{◌≡◌, ◌⊎◌, ℕ, suc, ◌+◌, ◌-◌, ◌≤◌, ◌++◌, List, [], ◌∷◌, length, map, sum, nat_le, Bool, false, Result, Err, refl, arith, ◌≢◌, inl, inr, list_all, range_with_len, nat_tests, cases_Bool, false_from_ne_true, ReadFault, Truncated, BadNumber, TooLarge, BadShape, UnknownOperation, BadConstant, NoSuchWire, Unset, SetTwice, WidthsExceedWires, MAX_GATES, MAX_VALUES, Gate, Netlist, input_wires, output_wires, IsSet, IsLawful, EachRead, Word, Number, Name, SpellWords, words_of_gate, words_of_widths, number_at, limited_at, numbers_at, widths_at, gate_at, is_set, check_gate, gates_at, check_outputs, circuit_of, operation_of_two, operation_of_one, two_at, one_at, check_read, check_set, check_reads, without_outputs, SideDue, input_side, output_side, GateDue, next_gate, LimitedDue, number_of_gates, number_of_wires, number_of_values, IsCount, NumberDue, due_with_limit, due_as_width, due_in_gate, NameDue, due_as_name, FirstFault, no_number, no_name, bad_number, too_large, widths_exceed, bad_counts, unknown, other_counts, bad_constant, no_wire_to_read, unset, no_wire_to_set, set_twice, output_unset, trailing, wires_read, GateNumberDue, first_count, second_count, wire_number, IsNamed, IsFirstUnset}
 use Rattle.gc_netlist.proofs.ReadingBack.{limited_back, numbers_back, widths_spelled, widths_back, gate_back, sizes_back, begun_back, lawful_back, set_below, set_read}
 use Rattle.gc_netlist.proofs.LawfulLemmas.{tested_set, set_tested, outputs_are_set}
 use Rattle.gc_netlist.proofs.SpellingLemmas.{Spell-split}
@@ -164,15 +153,12 @@ module _ (ts : List (List ℕ)) where
   no_number_back words (due_with_limit before limit due) us e s bad =
       limited_due_back before limit due us e s (rw bad refl)
   no_number_back words (due_as_width wires before count widths side few below) us e s bad =
-      stops before (Number count ∷ map Number widths) us e (widths_at wires)
-      (side_back wires before side) s
-      (λ vs s1.
+      stops _ _ _ _ _ (side_back wires before side) s (λ vs s1.
       let (t1, h1, s2) = limited_back MAX_VALUES count vs us (map Number widths) s1 few in
       let left : ℕ = suc (count - suc (length widths)) in
       rw (h1, numbers_back widths count left [] t1 us (omega arith) s2, bad) refl)
   no_number_back words (due_in_gate c before numbers due in_order) us e s bad =
-      stops before (map Number numbers) us e gate_at (no_gate c before due) s
-      (λ vs s1. number_stops numbers vs us e in_order s1 bad)
+      stops _ _ _ _ _ (no_gate c before due) s (λ vs s1. number_stops numbers vs us e in_order s1 bad)
 
   -- Where a name is due.
   name_back : (r : ℕ) (words : List Word) → NameDue r words → (vs : List (List ℕ))
@@ -189,37 +175,31 @@ module _ (ts : List (List ℕ)) where
   first_fault-met e (bad_number words token rest due s none) =
       no_number_back words due (token ∷ rest) BadNumber s (rw none refl)
   first_fault-met e (too_large words limit n rest due s above) =
-      stops words (Number n ∷ []) rest TooLarge (limited_at limit)
-      (limited_due_back words limit due) s (λ us s1. grind (arith, nat_tests))
+      stops _ _ _ _ _ (limited_due_back words limit due) s (λ us s1. grind (arith, nat_tests))
   first_fault-met e (widths_exceed wires words widths rest side few s wide) =
-      stops words (words_of_widths widths) rest WidthsExceedWires (widths_at wires)
-      (side_back wires words side) s (λ us s1.
+      stops _ _ _ _ _ (side_back wires words side) s (λ us s1.
       let past : nat_le (sum widths) wires ≡ false = grind (arith, nat_tests) in
       rw (widths_spelled wires widths us rest s1 few, past) refl)
   first_fault-met e (bad_counts c words r k rest due s bad) =
-      stops words (Number r ∷ Number k ∷ []) rest BadShape gate_at (no_gate c words due) s
-      (λ us s1. grind (arith, nat_tests))
+      stops _ _ _ _ _ (no_gate c words due) s (λ us s1. grind (arith, nat_tests))
   first_fault-met e (unknown r words name rest due s none) =
-      name_back r words due (name ∷ rest) UnknownOperation (name_front ts rest words name s)
-      (inl (refl, none))
+      name_back r words due _ _ (name_front ts rest words name s) (inl (refl, none))
   first_fault-met e (other_counts r k words name rest due s is other) =
-      name_back r words due (name ∷ rest) BadShape (name_front ts rest words name s)
-      (inr (refl, k, is, other))
+      name_back r words due _ _ (name_front ts rest words name s) (inr (refl, k, is, other))
   first_fault-met e (bad_constant c words v w rest due s large) =
-      stops words (words_of_constant v w) rest BadConstant gate_at (no_gate c words due) s
-      (λ us s1. grind (arith, nat_tests))
+      stops _ _ _ _ _ (no_gate c words due) s (λ us s1. grind (arith, nat_tests))
   first_fault-met e (no_wire_to_read c words g w rest due s first above) =
-      no_good_gate c words g rest NoSuchWire due s
-      (λ lawful. unset_stops c lawful g w NoSuchWire first (inl (above, refl)))
+      no_good_gate c words g rest _ due s
+      (λ lawful. unset_stops c lawful g w _ first (inl (above, refl)))
   first_fault-met e (unset c words g w rest due s first below) =
-      no_good_gate c words g rest Unset due s
-      (λ lawful. unset_stops c lawful g w Unset first (inr (below, refl)))
+      no_good_gate c words g rest _ due s
+      (λ lawful. unset_stops c lawful g w _ first (inr (below, refl)))
   first_fault-met e (no_wire_to_set c words g rest due s reads above) =
-      no_good_gate c words g rest NoSuchWire due s
-      (λ lawful. set_stops c lawful g NoSuchWire reads (inl (above, refl)))
+      no_good_gate c words g rest _ due s
+      (λ lawful. set_stops c lawful g _ reads (inl (above, refl)))
   first_fault-met e (set_twice c words g rest due s reads set) =
-      no_good_gate c words g rest SetTwice due s
-      (λ lawful. set_stops c lawful g SetTwice reads (inr (set, refl)))
+      no_good_gate c words g rest _ due s
+      (λ lawful. set_stops c lawful g _ reads (inr (set, refl)))
   first_fault-met e (output_unset c w rest b s last below free) =
       let none : length c.gates - length c.gates ≡ 0 = omega arith in
       let range = range_with_len (c.wires - output_wires c) (output_wires c) in

@@ -1,16 +1,5 @@
 -- What comes of reading: what is read is spelled, or its fault is the first fault.
-use Rattle.std.proofs.Common.{◌≡◌, ℕ, zero, suc, ◌+◌, ◌≤◌, ◌++◌, inl, inr, List, [], ◌∷◌, length, length-append, map, sum, append_assoc, nat_le, Option, Some, None, MatchResult, Result, Ok, Err, refl, arith}
-use Rattle.std.proofs.lemmas.Bool.{cases_Bool}
-use Rattle.std.proofs.lemmas.Bool.Decides.{nat_tests}
-use Rattle.std.proofs.lemmas.List.{length-map, map-append}
-use Rattle.gc_netlist.specs.declared.fault.ReadFault.{ReadFault}
-use Rattle.gc_netlist.specs.declared.limits.TheConstants.{MAX_VALUES}
-use Rattle.gc_netlist.specs.Text.{number_of}
-use Rattle.gc_netlist.specs.Spelling.{Word, Number, SpellWords, words_of_widths}
-use Rattle.gc_netlist.specs.Reading.{◌>>=◌, numbered, number_at, limited_at, numbers_at, widths_at}
-use Rattle.gc_netlist.specs.FirstFault.{FirstFault, SideDue, LimitedDue, number_of_values, NumberDue, due_with_limit, due_as_width, no_number, bad_number, too_large, widths_exceed}
-use Rattle.gc_netlist.specs.Place.{gate_of_number, place_of, IsLowest}
-use Rattle.gc_netlist.specs.Met.{left_after, limited_left, numbers_left, widths_left, back_of, IsBack, IsMet}
+use Rattle.gc_netlist.proofs.CommonNames.{◌≡◌, ℕ, zero, suc, ◌+◌, ◌≤◌, ◌++◌, inl, inr, List, [], ◌∷◌, length, length-append, map, sum, append_assoc, nat_le, Option, Some, None, MatchResult, Result, Ok, Err, refl, arith, cases_Bool, nat_tests, length-map, map-append, ReadFault, MAX_VALUES, number_of, Word, Number, SpellWords, words_of_widths, ◌>>=◌, numbered, number_at, limited_at, numbers_at, widths_at, FirstFault, SideDue, LimitedDue, number_of_values, NumberDue, due_with_limit, due_as_width, no_number, bad_number, too_large, widths_exceed, gate_of_number, place_of, IsLowest, left_after, limited_left, numbers_left, widths_left, back_of, IsBack, IsMet}
 use Rattle.gc_netlist.proofs.SpellingLemmas.{Spell-append, Spell-length, Spell-lengths}
 
 -- A first fault is met at its place.

@@ -1,21 +1,9 @@
 -- What comes of reading a gate and of judging it by the gates before it, or the first fault.
-use Rattle.std.proofs.Common.{◌≡◌, ℕ, ◌+◌, ◌-◌, ◌<◌, ◌&&◌, ◌==◌, ◌++◌, ◌⊎◌, inl, inr, List, [], ◌∷◌, length, length-append, map, true, Option, Some, MatchResult, Result, Ok, Err, codes, refl, arith, ◌≤◌, Bool}
-use Rattle.std.proofs.lemmas.Bool.{cases_Bool}
-use Rattle.std.proofs.lemmas.Bool.Decides.{nat_tests}
+use Rattle.gc_netlist.proofs.CommonNames.{◌≡◌, ℕ, ◌+◌, ◌-◌, ◌<◌, ◌&&◌, ◌==◌, ◌++◌, ◌⊎◌, inl, inr, List, [], ◌∷◌, length, length-append, map, true, Option, Some, MatchResult, Result, Ok, Err, codes, refl, arith, ◌≤◌, Bool, cases_Bool, nat_tests, ReadFault, BadShape, UnknownOperation, BadConstant, NoSuchWire, Unset, SetTwice, Operation, Gate, Netlist, input_wires, EachRead, IsSet, IsLawful, Word, Number, Name, SpellWords, words_of_operation, words_of_gate, ◌>>=◌, token_at, number_at, operation_of_two, operation_of_one, two_at, one_at, gate_at, is_set, check_read, check_set, check_reads, check_gate, GateDue, IsCount, GateNumberDue, first_count, second_count, wire_number, due_in_gate, NameDue, due_as_name, IsNamed, no_name, bad_counts, unknown, other_counts, bad_constant, without_outputs, wires_read, IsFirstUnset, no_wire_to_read, unset, no_wire_to_set, set_twice, left_after, two_left, one_left, gate_left, WireBack, wire_of_one, wire_of_two, wire_at_fault, IsMet, before_unset}
 use Rattle.std.proofs.lemmas.Slice.Eq.{bytes_eq-Decides}
-use Rattle.gc_netlist.specs.declared.fault.ReadFault.{ReadFault}
-use Rattle.gc_netlist.specs.declared.fault.ReadFault.TheVariants.{BadShape, UnknownOperation, BadConstant, NoSuchWire, Unset, SetTwice}
-use Rattle.gc_netlist.specs.declared.gate.Operation.{Operation}
-use Rattle.gc_netlist.specs.declared.gate.Gate.{Gate}
-use Rattle.gc_netlist.specs.Circuit.{Netlist, input_wires, EachRead, IsSet, IsLawful}
-use Rattle.gc_netlist.specs.Spelling.{Word, Number, Name, SpellWords, words_of_operation, words_of_gate}
-use Rattle.gc_netlist.specs.Reading.{◌>>=◌, token_at, number_at, operation_of_two, operation_of_one, two_at, one_at, gate_at, is_set, check_read, check_set, check_reads, check_gate}
-use Rattle.gc_netlist.specs.FirstFault.{GateDue, IsCount, GateNumberDue, first_count, second_count, wire_number, due_in_gate, NameDue, due_as_name, IsNamed, no_name, bad_counts, unknown, other_counts, bad_constant, without_outputs, wires_read, IsFirstUnset, no_wire_to_read, unset, no_wire_to_set, set_twice}
-use Rattle.gc_netlist.specs.Met.{left_after, two_left, one_left, gate_left, WireBack, wire_of_one, wire_of_two, wire_at_fault, IsMet}
 use Rattle.gc_netlist.proofs.SpellingLemmas.{Spell-append, Spell-length, Spell-lengths, same_words}
 use Rattle.gc_netlist.proofs.FaultLemmas.{met, Outcome, step, number_read}
 use Rattle.gc_netlist.specs.declared.gate.Operation.TheVariants.{Xor, And, Inv, Eq, Eqw}
-use Rattle.gc_netlist.specs.Place.{before_unset}
 use Rattle.gc_netlist.proofs.LawfulLemmas.{tested_set}
 use Rattle.gc_netlist.proofs.ReadingBack.{set_read}
 
@@ -36,14 +24,12 @@ Named r numbers v w name o =
 two_named : (a b w : ℕ) (name : List ℕ) (o : Result Operation ReadFault) →
     operation_of_two name a b ≡ o → Named 2 (a ∷ b ∷ w ∷ []) a w name o
 unfolding operation_of_two
-two_named a b w name (Ok op) h = grind (arith, bytes_eq-Decides)
-two_named a b w name (Err e) h = grind (arith, bytes_eq-Decides)
+two_named a b w name o h = grind (arith, bytes_eq-Decides)
 
 one_named : (a w : ℕ) (name : List ℕ) (o : Result Operation ReadFault) →
     operation_of_one name a ≡ o → Named 1 (a ∷ w ∷ []) a w name o
 unfolding operation_of_one
-one_named a w name (Ok op) h = grind (arith, nat_tests, bytes_eq-Decides)
-one_named a w name (Err e) h = grind (arith, nat_tests, bytes_eq-Decides)
+one_named a w name o h = grind (arith, nat_tests, bytes_eq-Decides)
 
 -- A gate that was read, and what comes after it.
 abbrev made : Operation → ℕ → List (List ℕ) → Result (Gate × List (List ℕ)) ReadFault
@@ -126,23 +112,20 @@ module _ (ts : List (List ℕ)) (c : Netlist) (words : List Word) (due : GateDue
       Outcome ts here (two_left vs) (two_at vs) Spelled
   unfolding two_at two_left
   two_read vs s =
-      number (2 ∷ 1 ∷ []) vs _ _ (wire_number 2 [] (inr refl) (omega arith)) s (λ a s1.
-      number (2 ∷ 1 ∷ a.0 ∷ []) a.1 _ _ (wire_number 2 (a.0 ∷ []) (inr refl) (omega arith)) s1
-      (λ b s2. number (2 ∷ 1 ∷ a.0 ∷ b.0 ∷ []) b.1 _ _
-      (wire_number 2 (a.0 ∷ b.0 ∷ []) (inr refl) (omega arith)) s2 (λ w s3.
+      number _ vs _ _ (wire_number 2 [] (inr refl) (omega arith)) s (λ a s1.
+      number _ a.1 _ _ (wire_number 2 (a.0 ∷ []) (inr refl) (omega arith)) s1 (λ b s2.
+      number _ b.1 _ _ (wire_number 2 (a.0 ∷ b.0 ∷ []) (inr refl) (omega arith)) s2 (λ w s3.
       name_read 2 (a.0 ∷ b.0 ∷ w.0 ∷ []) a.0 w.0 (inr refl) refl
-      (λ name. operation_of_two name a.0 b.0) w.1
-      (λ name. two_named a.0 b.0 w.0 name (operation_of_two name a.0 b.0) refl) s3)))
+      (λ name. operation_of_two name a.0 b.0) w.1 (λ name. two_named a.0 b.0 w.0 name _ refl) s3)))
 
   one_read : (vs : List (List ℕ)) → SpellWords us (Number 1 ∷ Number 1 ∷ []) vs →
       Outcome ts here (one_left vs) (one_at vs) Spelled
   unfolding one_at one_left
   one_read vs s =
-      number (1 ∷ 1 ∷ []) vs _ _ (wire_number 1 [] (inl refl) (omega arith)) s (λ a s1.
-      number (1 ∷ 1 ∷ a.0 ∷ []) a.1 _ _ (wire_number 1 (a.0 ∷ []) (inl refl) (omega arith)) s1
-      (λ w s2. name_read 1 (a.0 ∷ w.0 ∷ []) a.0 w.0 (inl refl) refl
-      (λ name. operation_of_one name a.0) w.1
-      (λ name. one_named a.0 w.0 name (operation_of_one name a.0) refl) s2))
+      number _ vs _ _ (wire_number 1 [] (inl refl) (omega arith)) s (λ a s1.
+      number _ a.1 _ _ (wire_number 1 (a.0 ∷ []) (inl refl) (omega arith)) s1 (λ w s2.
+      name_read 1 (a.0 ∷ w.0 ∷ []) a.0 w.0 (inl refl) refl (λ name. operation_of_one name a.0) w.1
+      (λ name. one_named a.0 w.0 name _ refl) s2))
 
   -- A gate that is due.
   pub gate_read : Outcome ts here (gate_left us) (gate_at us) Spelled

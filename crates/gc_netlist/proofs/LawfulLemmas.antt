@@ -1,19 +1,8 @@
 -- A circuit whose gates and outputs pass their checks is lawful.
-use Rattle.std.proofs.Common.{◌≡◌, ℕ, ◌+◌, ◌-◌, ◌<◌, ◌≤◌, ◌++◌, ◌==◌, inl, inr, List, [], ◌∷◌, length, get_or, take, slice_get, Some, Ok, Bool, true, false, nat_lt, ◌∙◌, arith}
-use Rattle.std.specs.List.{list_all, range_with_len}
-use Rattle.std.proofs.lemmas.Bool.{both_ways, or_cases, or_right, ltb-true}
-use Rattle.std.proofs.lemmas.Grind.{common_steps}
-use Rattle.std.proofs.lemmas.Bool.Decides.{nat_tests}
-use Rattle.std.proofs.lemmas.Option.{gets}
+use Rattle.gc_netlist.proofs.CommonNames.{◌≡◌, ℕ, ◌+◌, ◌-◌, ◌<◌, ◌≤◌, ◌++◌, ◌==◌, inl, inr, List, [], ◌∷◌, length, get_or, take, slice_get, Some, Ok, Bool, true, false, nat_lt, ◌∙◌, arith, list_all, range_with_len, both_ways, or_cases, or_right, ltb-true, common_steps, nat_tests, gets, AllPass-from_list_all, length-range_with_len, get_or-range_with_len, MAX_GATES, MAX_WIRES, MAX_VALUES, Gate, Netlist, input_wires, output_wires, EachRead, IsSetBy, IsSetBefore, IsSet, IsLawful, is_set, check_read, check_set, check_reads, check_gate, check_outputs}
 use Rattle.std.proofs.Math.Seq.{take-length}
 use Rattle.std.proofs.lemmas.List.Folds.{Any-from_list_any}
-use Rattle.std.proofs.lemmas.List.Sums.{AllPass-from_list_all}
-use Rattle.std.proofs.lemmas.List.FromFn.{length-range_with_len, get_or-range_with_len}
 use Rattle.std.proofs.lemmas.Map.Keys.{any_passes_from_place}
-use Rattle.gc_netlist.specs.declared.limits.TheConstants.{MAX_GATES, MAX_WIRES, MAX_VALUES}
-use Rattle.gc_netlist.specs.declared.gate.Gate.{Gate}
-use Rattle.gc_netlist.specs.Circuit.{Netlist, input_wires, output_wires, EachRead, IsSetBy, IsSetBefore, IsSet, IsLawful}
-use Rattle.gc_netlist.specs.Reading.{is_set, check_read, check_set, check_reads, check_gate, check_outputs}
 use Rattle.gc_netlist.proofs.SolutionLemmas.{EachRead-map}
 
 -- The test for wires that are set says yes of such wires alone,
@@ -68,30 +57,42 @@ pub outputs_are_set : (c : Netlist) (u : Unit {0}) → check_outputs c ≡ Ok u 
     output_wires c ≤ c.wires → (w : ℕ) → c.wires ≤ w + output_wires c → w < c.wires → IsSet c w
 unfolding check_outputs
 outputs_are_set c u h fits w last below =
-    let set : ℕ → Bool = is_set (input_wires c) c.gates in
     let first : ℕ = c.wires - output_wires c in
     let range : List ℕ = range_with_len first (output_wires c) in
-    let all : list_all set range ≡ true = grind arith in
-    let inside : w - first < length range =
-    omega (arith, length-range_with_len first (output_wires c)) in
-    let place : get_or range (w - first) 0 ≡ w =
-    get_or-range_with_len first (output_wires c) (w - first) 0 (omega arith) ∙ omega arith in
-    tested_set c w (rw place at (AllPass-from_list_all set range all (w - first) 0 inside))
+    let inside : w - first < output_wires c = omega arith in
+    let place : first + (w - first) ≡ w = omega arith in
+    let all = AllPass-from_list_all (is_set (input_wires c) c.gates) range (grind arith) (w - first)
+    0 (omega (arith, length-range_with_len first (output_wires c))) in
+    tested_set c w (rw (get_or-range_with_len first (output_wires c) (w - first) 0 inside, place)
+    at all)
 
--- A circuit is lawful if it keeps the limits, its gates pass their checks, and its outputs are set.
-pub checked_lawful : (c : Netlist) → length c.gates ≤ MAX_GATES → c.wires ≤ MAX_WIRES →
-    length c.input_widths ≤ MAX_VALUES → input_wires c ≤ c.wires →
-    length c.output_widths ≤ MAX_VALUES → output_wires c ≤ c.wires →
+-- A circuit of at most n gates that keeps the limits.
+pub record IsSized (n : ℕ) (c : Netlist) : Type 0 where
+  pub few_gates : n ≤ MAX_GATES
+  pub so_far : length c.gates ≤ n
+  pub few_wires : c.wires ≤ MAX_WIRES
+  pub few_inputs : length c.input_widths ≤ MAX_VALUES
+  pub inputs_fit : input_wires c ≤ c.wires
+  pub few_outputs : length c.output_widths ≤ MAX_VALUES
+  pub outputs_fit : output_wires c ≤ c.wires
+
+-- It is lawful if its gates pass their checks and its outputs are set.
+pub checked_lawful : (n : ℕ) (c : Netlist) → IsSized n c →
     AreChecked c.wires (input_wires c) c.gates →
     ((w : ℕ) → c.wires ≤ w + output_wires c → w < c.wires → IsSet c w) → IsLawful c
-checked_lawful c gates wires inputs inputs_fit outputs outputs_fit ok set =
+checked_lawful n c sized ok set =
     let passes = λ (i : ℕ) (g : Gate) (at : slice_get c.gates i ≡ Some g).
     gate_passes c.wires (is_set (input_wires c) (take i c.gates)) g (ok i g at) in
-    let reads : (i : ℕ) (g : Gate) → slice_get c.gates i ≡ Some g →
-    EachRead (IsSetBefore c i) g.operation =
-    λ i g at. EachRead-map _ (IsSetBefore c i) g.operation (set_before c i) (passes i g at).0 in
-    let sets : (i : ℕ) (g : Gate) → slice_get c.gates i ≡ Some g → g.set < c.wires =
-    λ i g at. (passes i g at).1 in
-    let once : (i : ℕ) (g : Gate) → slice_get c.gates i ≡ Some g → IsSetBefore c i g.set → ⊥ =
-    λ i g at before. both_ways _ (passes i g at).2 (before_set c i g.set before) in
-    assumption
+    record {
+      few_gates = omega (arith, sized.few_gates, sized.so_far);
+      few_wires = sized.few_wires;
+      few_inputs = sized.few_inputs;
+      few_outputs = sized.few_outputs;
+      inputs_fit = sized.inputs_fit;
+      outputs_fit = sized.outputs_fit;
+      reads = λ i g at.
+          EachRead-map _ (IsSetBefore c i) g.operation (set_before c i) (passes i g at).0;
+      sets = λ i g at. (passes i g at).1;
+      sets_once = λ i g at before. both_ways _ (passes i g at).2 (before_set c i g.set before);
+      outputs_set = set;
+    }

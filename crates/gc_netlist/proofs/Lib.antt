@@ -1,3 +1,4 @@
+pub mod CommonNames
 pub mod SolutionLemmas
 pub mod Tables
 pub mod SpellingLemmas

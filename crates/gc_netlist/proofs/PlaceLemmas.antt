@@ -1,12 +1,5 @@
 -- Which kind of place a fault has.
-use Rattle.std.proofs.Common.{◌≡◌, ◌≢◌, ℕ, ◌+◌, ◌<◌, ◌++◌, inl, inr, List, [], ◌∷◌, length, refl, arith}
-use Rattle.std.proofs.lemmas.List.{length-map}
-use Rattle.gc_netlist.specs.declared.fault.ReadFault.{ReadFault}
-use Rattle.gc_netlist.specs.declared.fault.ReadFault.TheVariants.{Truncated, OutputUnset}
-use Rattle.gc_netlist.specs.Circuit.{Netlist}
-use Rattle.gc_netlist.specs.Spelling.{Word, Number, Name, SpellWords, words_of_gate, words_of_widths, words_of_circuit}
-use Rattle.gc_netlist.specs.FirstFault.{wires_read, IsFirstUnset, FirstFault, no_number, no_name, bad_number, too_large, widths_exceed, bad_counts, unknown, other_counts, bad_constant, no_wire_to_read, unset, no_wire_to_set, set_twice, output_unset, trailing}
-use Rattle.gc_netlist.specs.Place.{Spot, Token, Behind, End, before_unset, place_of}
+use Rattle.gc_netlist.proofs.CommonNames.{◌≡◌, ◌≢◌, ℕ, ◌+◌, ◌<◌, ◌++◌, inl, inr, List, [], ◌∷◌, length, refl, arith, length-map, ReadFault, Truncated, OutputUnset, Netlist, Word, Number, Name, SpellWords, words_of_gate, words_of_widths, words_of_circuit, wires_read, IsFirstUnset, FirstFault, no_number, no_name, bad_number, too_large, widths_exceed, bad_counts, unknown, other_counts, bad_constant, no_wire_to_read, unset, no_wire_to_set, set_twice, output_unset, trailing, Spot, Token, Behind, End, before_unset, place_of}
 use Rattle.gc_netlist.proofs.SpellingLemmas.{Spell-length, Spell-lengths}
 use Rattle.gc_netlist.proofs.GateFaults.{words_of_constant, has_reads}
 

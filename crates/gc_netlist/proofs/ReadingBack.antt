@@ -1,23 +1,8 @@
 -- What spells a lawful circuit is read as that circuit.
-use Rattle.std.proofs.Common.{◌≡◌, ℕ, zero, suc, ◌+◌, ◌-◌, ◌<◌, ◌≤◌, ◌++◌, inl, inr, List, [], ◌∷◌, length, map, sum, take, append_assoc, append-nil, nat_le, Result, Ok, Err, if◌then◌else◌, refl, arith}
-use Rattle.std.specs.List.{flat_map, range_with_len}
-use Rattle.std.proofs.lemmas.Bool.{false_from_ne_true}
-use Rattle.std.proofs.lemmas.Bool.Decides.{nat_tests}
-use Rattle.std.proofs.lemmas.Grind.{common_steps}
-use Rattle.std.proofs.lemmas.Option.{gets}
-use Rattle.std.proofs.lemmas.List.Sums.{list_all-from_AllPass}
-use Rattle.std.proofs.lemmas.List.FromFn.{length-range_with_len, get_or-range_with_len}
-use Rattle.gc_netlist.specs.declared.fault.ReadFault.{ReadFault}
-use Rattle.gc_netlist.specs.declared.fault.ReadFault.TheVariants.{WidthsExceedWires}
-use Rattle.gc_netlist.specs.declared.limits.TheConstants.{MAX_GATES, MAX_WIRES, MAX_VALUES}
-use Rattle.gc_netlist.specs.declared.gate.Gate.{Gate}
-use Rattle.gc_netlist.specs.Circuit.{Netlist, netlist_of, input_wires, output_wires, IsSet, IsLawful}
-use Rattle.gc_netlist.specs.Spelling.{Word, Number, SpellWords, words_of_gate, words_of_widths, words_of_circuit}
-use Rattle.gc_netlist.specs.Reading.{◌>>=◌, limited_at, numbers_at, widths_at, operation_of_two, operation_of_one, two_at, one_at, gate_at, is_set, check_read, check_set, check_reads, check_gate, gates_at, check_outputs, check_end, circuit_of}
-use Rattle.gc_netlist.specs.FirstFault.{without_outputs, IsBegun, words_so_far}
+use Rattle.gc_netlist.proofs.CommonNames.{◌≡◌, ℕ, zero, suc, ◌+◌, ◌-◌, ◌<◌, ◌≤◌, ◌++◌, inl, inr, List, [], ◌∷◌, length, map, sum, take, append_assoc, append-nil, nat_le, Result, Ok, Err, if◌then◌else◌, refl, arith, flat_map, range_with_len, false_from_ne_true, nat_tests, common_steps, gets, list_all-from_AllPass, length-range_with_len, get_or-range_with_len, ReadFault, WidthsExceedWires, MAX_GATES, MAX_WIRES, MAX_VALUES, Gate, Netlist, netlist_of, input_wires, output_wires, IsSet, IsLawful, Word, Number, SpellWords, words_of_gate, words_of_widths, words_of_circuit, ◌>>=◌, limited_at, numbers_at, widths_at, operation_of_two, operation_of_one, two_at, one_at, gate_at, is_set, check_read, check_set, check_reads, check_gate, gates_at, check_outputs, check_end, circuit_of, without_outputs, IsBegun, words_so_far}
 use Rattle.gc_netlist.proofs.Tables.{IsSetBefore-below}
 use Rattle.gc_netlist.proofs.SpellingLemmas.{Spell-split}
-use Rattle.gc_netlist.proofs.LawfulLemmas.{AreChecked, before_set, set_before, set_tested, checked_lawful}
+use Rattle.gc_netlist.proofs.LawfulLemmas.{AreChecked, before_set, set_before, set_tested, IsSized, checked_lawful}
 
 -- A number with a limit that is spelled is read.
 pub limited_back : (limit n : ℕ) (ts rest : List (List ℕ)) (ws : List Word) →
@@ -113,14 +98,12 @@ module _ (c : Netlist) (lawful : IsLawful (without_outputs c)) where
   set_read w h =
       let below = set_below w h in let yes = set_tested c w h in grind (arith, nat_tests)
 
--- A header in order, with gates that pass their checks, begins a circuit.
-pub checked_begun : (n : ℕ) (c : Netlist) → n ≤ MAX_GATES → length c.gates ≤ n →
-    c.wires ≤ MAX_WIRES → length c.input_widths ≤ MAX_VALUES → input_wires c ≤ c.wires →
-    length c.output_widths ≤ MAX_VALUES → output_wires c ≤ c.wires →
+-- A circuit that keeps the limits, and whose gates pass their checks, is begun.
+pub checked_begun : (n : ℕ) (c : Netlist) → IsSized n c →
     AreChecked c.wires (input_wires c) c.gates → IsBegun n c
-checked_begun n c few so_far wires inputs inputs_fit outputs outputs_fit ok =
-    let lawful = checked_lawful (without_outputs c) (omega arith) wires inputs inputs_fit
-    (omega arith) (omega arith) ok (λ w last below. absurd (omega arith)) in
+checked_begun n c sized ok =
+    let lawful = checked_lawful n (without_outputs c) (omega arith) ok
+    (λ w last below. absurd (omega arith)) in
     assumption
 
 -- The header and the gates so far are read.
@@ -149,9 +132,7 @@ pub lawful_back : (ts rest : List (List ℕ)) (c : Netlist) → IsLawful c →
     SpellWords ts (words_of_circuit c) rest → circuit_of ts ≡ (check_end rest >>= (λ u. Ok c))
 unfolding gates_at check_outputs
 lawful_back ts rest c lawful s =
-    let begun = checked_begun (length c.gates) c lawful.few_gates (omega arith) lawful.few_wires
-    lawful.few_inputs lawful.inputs_fit lawful.few_outputs lawful.outputs_fit
-    (lawful_checked c lawful) in
+    let begun = checked_begun (length c.gates) c (omega arith) (lawful_checked c lawful) in
     let none : length c.gates - length c.gates ≡ 0 = omega arith in
     let first : ℕ = c.wires - output_wires c in
     let all = list_all-from_AllPass (is_set (input_wires c) c.gates)

@@ -1,12 +1,5 @@
 -- Each text spells one lawful circuit or has one first fault.
-use Rattle.std.proofs.Common.{◌≢◌, MatchResult, ◌≡◌, ℕ, ◌⊎◌, inl, inr, List, [], Result, Ok, Err, arith}
-use Rattle.gc_netlist.specs.declared.fault.ReadFault.{ReadFault}
-use Rattle.gc_netlist.specs.declared.fault.ReadFault.TheVariants.{Memory}
-use Rattle.gc_netlist.specs.Circuit.{Netlist, IsLawful}
-use Rattle.gc_netlist.specs.Text.{tokens}
-use Rattle.gc_netlist.specs.Spelling.{Spells}
-use Rattle.gc_netlist.specs.Reading.{circuit_of}
-use Rattle.gc_netlist.specs.FirstFault.{FirstFault, ReadingLaw}
+use Rattle.gc_netlist.proofs.CommonNames.{◌≢◌, MatchResult, ◌≡◌, ℕ, ◌⊎◌, inl, inr, List, [], Result, Ok, Err, arith, ReadFault, Memory, Netlist, IsLawful, tokens, Spells, circuit_of, FirstFault, ReadingLaw}
 use Rattle.gc_netlist.proofs.ReadingBack.{lawful_back}
 use Rattle.gc_netlist.proofs.CircuitFaults.{IsAnswer, circuit_of-read}
 use Rattle.gc_netlist.proofs.CircuitFaultsBack.{first_fault-met}

@@ -1,11 +1,5 @@
 -- Values that meet a local rule at each gate agree on the wires that are set, and they exist.
-use Rattle.std.proofs.Common.{◌≡◌, ◌≢◌, ℕ, zero, suc, ◌≤◌, inl, inr, length, slice_get, Some, None, Option, refl, sym, ap, ◌∙◌, arith}
-use Rattle.std.proofs.lemmas.Bool.{cases_lt}
-use Rattle.std.proofs.lemmas.Bool.Decides.{nat_tests}
-use Rattle.std.proofs.lemmas.Option.{slice_get_within}
-use Rattle.gc_netlist.specs.declared.gate.Operation.{Operation}
-use Rattle.gc_netlist.specs.declared.gate.Gate.{Gate}
-use Rattle.gc_netlist.specs.Circuit.{Netlist, EachRead, IsSetBefore, IsSet, IsLawful}
+use Rattle.gc_netlist.proofs.CommonNames.{◌≡◌, ◌≢◌, ℕ, zero, suc, ◌≤◌, inl, inr, length, slice_get, Some, None, Option, refl, sym, ap, ◌∙◌, arith, cases_lt, nat_tests, slice_get_within, Operation, Gate, Netlist, EachRead, IsSetBefore, IsSet, IsLawful}
 use Rattle.gc_netlist.specs.Solution.{Solves, IsLocal, put_gate, values_after}
 
 -- what is so of each wire, under P

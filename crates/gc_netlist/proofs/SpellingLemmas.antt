@@ -1,6 +1,5 @@
 -- Words that are spelled, one list of words after another.
-use Rattle.std.proofs.Common.{◌≡◌, ℕ, ◌+◌, ◌++◌, List, [], ◌∷◌, length, length-append, refl, arith}
-use Rattle.gc_netlist.specs.Spelling.{Word, SpellWords}
+use Rattle.gc_netlist.proofs.CommonNames.{◌≡◌, ℕ, ◌+◌, ◌++◌, List, [], ◌∷◌, length, length-append, refl, arith, Word, SpellWords}
 
 -- Words after words,
 pub Spell-append : (ts us rest : List (List ℕ)) (ws vs : List Word) → SpellWords ts ws us →

@@ -1,13 +1,5 @@
 -- Tables of values on the wires, as lists.
-use Rattle.std.proofs.Common.{◌≡◌, ℕ, zero, suc, ◌+◌, ◌-◌, ◌<◌, ◌≤◌, inl, inr, List, length, length-set, map, set, drop, get_or, slice_get, add-one, Some, refl, sym, ap, ◌∙◌, arith, replicate, ◌++◌}
-use Rattle.std.proofs.lemmas.Bool.Decides.{nat_tests}
-use Rattle.std.proofs.lemmas.Bool.{cases_lt}
-use Rattle.std.proofs.lemmas.List.{get_or-set_same, get_or-set_other, get_or_append_left, get_or-append_right, get_or-replicate, get_or_past}
-use Rattle.std.proofs.lemmas.List.FromFn.{length-map-range_with_len, get_or-map-range_with_len, fill_by_all}
-use Rattle.std.specs.List.{range_with_len}
-use Rattle.std.proofs.lemmas.Grind.{common_steps}
-use Rattle.gc_netlist.specs.declared.gate.Gate.{Gate}
-use Rattle.gc_netlist.specs.Circuit.{Netlist, EachRead, IsSetBefore, IsLawful}
+use Rattle.gc_netlist.proofs.CommonNames.{◌≡◌, ℕ, zero, suc, ◌+◌, ◌-◌, ◌<◌, ◌≤◌, inl, inr, List, length, length-set, map, set, drop, get_or, slice_get, add-one, Some, refl, sym, ap, ◌∙◌, arith, replicate, ◌++◌, nat_tests, cases_lt, get_or-set_same, get_or-set_other, get_or_append_left, get_or-append_right, get_or-replicate, get_or_past, length-map-range_with_len, get_or-map-range_with_len, fill_by_all, range_with_len, common_steps, Gate, Netlist, EachRead, IsSetBefore, IsLawful}
 use Rattle.gc_netlist.proofs.SolutionLemmas.{EachRead-map}
 use Rattle.gc_netlist.specs.Solution.{IsLocal, put, values_after}
 
@@ -79,16 +71,5 @@ length-table f n table is = ap length is ∙ length-map-range_with_len f 0 n
 -- a table in front, and one value in each place that is left
 pub table_padded : {A : Type 0} (xs : List A) (n : ℕ) (d : A) → length xs ≤ n →
     xs ++ replicate (n - length xs) d ≡ map (λ w. get_or xs w d) (range_with_len 0 n)
-table_padded {A = A} xs n d fits =
-    fill_by_all (λ w. get_or xs w d) (xs ++ rest) n d (grind (arith, common_steps)) at_each
-  where
-    rest : List A
-    rest = replicate (n - length xs) d
-
-    at_each : (k : ℕ) → k < n → get_or (xs ++ rest) k d ≡ get_or xs k d
-    at_each k below = elim (cases_lt k (length xs)) [
-      | inl inside ↦ get_or_append_left xs rest d k inside
-      | inr past ↦ get_or-append_right xs rest (length xs) k d refl past
-          ∙ get_or-replicate (n - length xs) (k - length xs) d d (omega arith)
-          ∙ sym (get_or_past xs k d past)
-    ]
+table_padded xs n d fits = fill_by_all (λ w. get_or xs w d) _ n d (grind (arith, common_steps))
+    (λ k below. grind (arith, common_steps, get_or_past, get_or-replicate))

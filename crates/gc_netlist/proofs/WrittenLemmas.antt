@@ -1,16 +1,10 @@
 -- Words as they are written: the tokens of their lines, and what these spell.
-use Rattle.std.proofs.Common.{◌≡◌, ℕ, zero, suc, ◌-◌, ◌*◌, ◌/◌, ◌%◌, ◌+◌, ◌<◌, ◌≤◌, ◌^◌, ◌==◌, ◌++◌, inl, inr, List, [], ◌∷◌, map, append_assoc, true, false, Some, None, decimal, refl, ap, ◌∙◌, arith, rules}
+use Rattle.gc_netlist.proofs.CommonNames.{◌≡◌, ℕ, zero, suc, ◌-◌, ◌*◌, ◌/◌, ◌%◌, ◌+◌, ◌<◌, ◌≤◌, ◌^◌, ◌==◌, ◌++◌, inl, inr, List, [], ◌∷◌, map, append_assoc, true, false, Some, None, decimal, refl, ap, ◌∙◌, arith, rules, fold, flat_map, list_all, filter, AllByRecursion, cases_Bool, nat_tests, map-append, is_blank, is_some_run, tokens, is_digit, value_of, number_of, Word, Number, Name, SpellsWord, SpellWords}
 use Rattle.std.specs.Fmt.{digits, digits_onto, digit_glyph}
-use Rattle.std.specs.List.{fold, flat_map, list_all, filter, AllByRecursion}
-use Rattle.std.proofs.lemmas.Bool.{cases_Bool}
-use Rattle.std.proofs.lemmas.Bool.Decides.{nat_tests}
 use Rattle.std.proofs.lemmas.Fmt.{digits_decimal, digits_value-decimal}
-use Rattle.std.proofs.lemmas.List.{map-append}
 use Rattle.std.proofs.lemmas.List.Elements.{All-from_recursion}
 use Rattle.std.proofs.lemmas.List.Splits.{slice_split_at, slice_split-cons_yes}
 use Rattle.std.proofs.lemmas.Str.Parse.{IsNumeralModel, numerals_by_fold}
-use Rattle.gc_netlist.specs.Text.{is_blank, is_some_run, tokens, is_digit, value_of, number_of}
-use Rattle.gc_netlist.specs.Spelling.{Word, Number, Name, SpellsWord, SpellWords}
 use Rattle.gc_netlist.specs.Canon.{written, line}
 use Rattle.gc_netlist.proofs.SpellingLemmas.{Spell-append}
 
