@@ -23,18 +23,6 @@ abbrev Misnamed : ℕ → List ℕ → ReadFault → Type 0
 Misnamed r name e = ((e ≡ UnknownOperation) × ((k : ℕ) → IsNamed k name → ⊥))
     ⊎ ((e ≡ BadShape) × (k : ℕ) × IsNamed k name × (k ≢ r))
 
-misnamed_two : (name : List ℕ) (a b : ℕ) (e : ReadFault) → Misnamed 2 name e →
-    operation_of_two name a b ≡ Err e
-unfolding operation_of_two
-misnamed_two name a b e (inl (is, none)) = grind (arith, bytes_eq-Decides, none 1, none 2)
-misnamed_two name a b e (inr (is, k, named, other)) = grind (arith, bytes_eq-Decides)
-
-misnamed_one : (name : List ℕ) (a : ℕ) (e : ReadFault) → Misnamed 1 name e →
-    operation_of_one name a ≡ Err e
-unfolding operation_of_one
-misnamed_one name a e (inl (is, none)) = grind (arith, bytes_eq-Decides, none 1, none 2)
-misnamed_one name a e (inr (is, k, named, other)) = grind (arith, bytes_eq-Decides)
-
 -- What is wrong where a name is due: it is missing, or no such operation has it.
 abbrev Wrong : ℕ → List (List ℕ) → ReadFault → Type 0
 Wrong r [] e = e ≡ Truncated
@@ -43,15 +31,17 @@ Wrong r (name ∷ rest) e = Misnamed r name e
 name_stops : (r : ℕ) (numbers : List ℕ) (us vs : List (List ℕ)) (e : ReadFault) → IsCount r →
     length numbers ≡ r + 1 → SpellWords us (map Number (r ∷ 1 ∷ numbers)) vs → Wrong r vs e →
     gate_at us ≡ Err e
-unfolding gate_at two_at one_at
+unfolding gate_at two_at one_at operation_of_two operation_of_one
 name_stops r (a ∷ w ∷ []) us [] e count len s wrong = grind (arith, nat_tests)
 name_stops r (a ∷ b ∷ w ∷ []) us [] e count len s wrong = grind (arith, nat_tests)
-name_stops r (a ∷ w ∷ []) us (name ∷ vs) e count len s wrong =
-    let is : r ≡ 1 = omega arith in
-    let bad = misnamed_one name a e (rw is at wrong) in grind (arith, nat_tests)
-name_stops r (a ∷ b ∷ w ∷ []) us (name ∷ vs) e count len s wrong =
-    let is : r ≡ 2 = omega arith in
-    let bad = misnamed_two name a b e (rw is at wrong) in grind (arith, nat_tests)
+name_stops r (a ∷ w ∷ []) us (name ∷ vs) e count len s (inl (is, none)) =
+    grind (arith, nat_tests, bytes_eq-Decides, none 1, none 2)
+name_stops r (a ∷ w ∷ []) us (name ∷ vs) e count len s (inr (is, k, named, other)) =
+    grind (arith, nat_tests, bytes_eq-Decides)
+name_stops r (a ∷ b ∷ w ∷ []) us (name ∷ vs) e count len s (inl (is, none)) =
+    grind (arith, nat_tests, bytes_eq-Decides, none 1, none 2)
+name_stops r (a ∷ b ∷ w ∷ []) us (name ∷ vs) e count len s (inr (is, k, named, other)) =
+    grind (arith, nat_tests, bytes_eq-Decides)
 name_stops r _ us vs e count len s wrong = absurd (grind arith)
 
 -- A name that is spelled after other words is the token there.

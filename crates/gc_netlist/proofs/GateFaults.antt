@@ -74,26 +74,23 @@ module _ (ts : List (List ℕ)) (c : Netlist) (words : List Word) (due : GateDue
     judged : (name : List ℕ) (rest : List (List ℕ)) (o : Result Operation ReadFault) →
         Named r numbers v w name o → SpellWords us first (name ∷ rest) →
         Outcome ts here rest (o >>= (λ op. made op w rest)) Spelled
-    judged name rest (Ok op) same s = record {
-      is = rw same (Spell-append us (name ∷ rest) rest first (Name name ∷ []) s (refl, refl));
-    }
+    judged name rest (Ok op) same s =
+        record { is = rw same (Spell-append us _ rest first (Name name ∷ []) s (refl, refl)) }
     judged name rest (Err e) why s =
         let before : List Word = words ++ first in
         let so_long = after first (name ∷ rest) s in
-        let whole =
-        Spell-append ts (name ∷ rest) rest before (Name name ∷ []) so_long (refl, refl) in
-        let place : length before + 1 + length rest ≡ length ts =
-        omega (arith, Spell-length ts (name ∷ rest) before so_long) in
+        let whole = Spell-append ts _ rest before (Name name ∷ []) so_long (refl, refl) in
+        let place = Spell-length ts (name ∷ rest) before so_long in
         record {
           is = elim why [
-            | inl p ↦ rw p.0
-                (met (other_counts r (3 - r) before name rest name_due whole p.1 (omega arith)) tt
-                place)
-            | inr (inl p) ↦ rw p.0 (met (unknown r before name rest name_due whole p.1) tt place)
+            | inl p ↦ rw p.0 (met
+                (other_counts r (3 - r) before name rest name_due whole p.1 (omega arith)) tt
+                (omega arith))
+            | inr (inl p) ↦ rw p.0
+                (met (unknown r before name rest name_due whole p.1) tt (omega arith))
             | inr (inr p) ↦
-                let all = after (words_of_constant v w) rest (same_words us rest
-                (words_of_constant v w) (first ++ Name name ∷ []) p.2
-                (Spell-append us (name ∷ rest) rest first (Name name ∷ []) s (refl, refl))) in
+                let all = after (words_of_constant v w) rest (same_words us rest _ _ p.2
+                (Spell-append us _ rest first (Name name ∷ []) s (refl, refl))) in
                 rw p.0 (met (bad_constant c words v w rest due all p.1) tt
                 (omega (arith, Spell-lengths ts rest words (words_of_constant v w) all)))
           ];
