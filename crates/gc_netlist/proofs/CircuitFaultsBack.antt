@@ -1,9 +1,9 @@
 -- A first fault is the fault that reading meets.
-use Rattle.gc_netlist.proofs.CommonNames.{◌≡◌, ◌⊎◌, ℕ, suc, ◌+◌, ◌-◌, ◌≤◌, ◌++◌, List, [], ◌∷◌, length, map, sum, nat_le, Bool, false, Result, Err, refl, arith, ◌≢◌, inl, inr, list_all, range_with_len, nat_tests, cases_Bool, false_from_ne_true, ReadFault, Truncated, BadNumber, TooLarge, BadShape, UnknownOperation, BadConstant, NoSuchWire, Unset, SetTwice, WidthsExceedWires, MAX_GATES, MAX_VALUES, Gate, Netlist, input_wires, output_wires, IsSet, IsLawful, EachRead, Word, Number, Name, SpellWords, words_of_gate, words_of_widths, number_at, limited_at, numbers_at, widths_at, gate_at, is_set, check_gate, gates_at, check_outputs, circuit_of, operation_of_two, operation_of_one, two_at, one_at, check_read, check_set, check_reads, without_outputs, SideDue, input_side, output_side, GateDue, next_gate, LimitedDue, number_of_gates, number_of_wires, number_of_values, IsCount, NumberDue, due_with_limit, due_as_width, due_in_gate, NameDue, due_as_name, FirstFault, no_number, no_name, bad_number, too_large, widths_exceed, bad_counts, unknown, other_counts, bad_constant, no_wire_to_read, unset, no_wire_to_set, set_twice, output_unset, trailing, wires_read, GateNumberDue, first_count, second_count, wire_number, IsNamed, IsFirstUnset}
+use Rattle.gc_netlist.proofs.CommonNames.{◌≡◌, ◌⊎◌, ℕ, suc, ◌+◌, ◌-◌, ◌≤◌, ◌++◌, List, [], ◌∷◌, length, map, sum, nat_le, Bool, false, Result, Err, refl, arith, ◌≢◌, inl, inr, list_all, range_with_len, nat_tests, cases_Bool, false_from_ne_true, ReadFault, Truncated, BadNumber, BadShape, UnknownOperation, NoSuchWire, SetTwice, MAX_GATES, MAX_VALUES, Gate, Netlist, input_wires, output_wires, IsSet, IsLawful, EachRead, Word, Number, Name, SpellWords, words_of_gate, words_of_widths, number_at, limited_at, numbers_at, widths_at, gate_at, is_set, check_gate, gates_at, check_outputs, circuit_of, operation_of_two, operation_of_one, two_at, one_at, check_read, check_set, check_reads, without_outputs, SideDue, input_side, output_side, GateDue, next_gate, LimitedDue, number_of_gates, number_of_wires, number_of_values, IsCount, NumberDue, due_with_limit, due_as_width, due_in_gate, NameDue, due_as_name, FirstFault, no_number, no_name, bad_number, too_large, widths_exceed, bad_counts, unknown, other_counts, bad_constant, no_wire_to_read, unset, no_wire_to_set, set_twice, output_unset, trailing, wires_read, GateNumberDue, first_count, second_count, wire_number, IsNamed, IsFirstUnset}
 use Rattle.gc_netlist.proofs.ReadingBack.{limited_back, numbers_back, widths_spelled, widths_back, gate_back, sizes_back, begun_back, lawful_back, set_below, set_read}
 use Rattle.gc_netlist.proofs.LawfulLemmas.{tested_set, set_tested, outputs_are_set}
 use Rattle.gc_netlist.proofs.SpellingLemmas.{Spell-split}
-use Rattle.gc_netlist.proofs.GateFaults.{words_of_constant, UnsetFault}
+use Rattle.gc_netlist.proofs.GateFaults.{UnsetFault}
 use Rattle.std.proofs.lemmas.Slice.Eq.{bytes_eq-Decides}
 
 -- A gate in which a number is missing.

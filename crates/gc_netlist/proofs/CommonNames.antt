@@ -3,7 +3,7 @@ pub use Rattle.std.proofs.Common.{◌≡◌, ℕ, ◌+◌, ◌-◌, ◌<◌, ◌
 pub use Rattle.std.proofs.lemmas.Bool.{cases_Bool, cases_eq, both_ways, false_from_ne_true, cases_lt, or_cases, or_right, ltb-true}
 pub use Rattle.std.proofs.lemmas.Bool.Decides.{nat_tests}
 pub use Rattle.std.proofs.lemmas.Grind.{common_steps}
-pub use Rattle.std.proofs.lemmas.List.{length-map, map-append, get_or-set_same, get_or-set_other, get_or_append_left, get_or-append_right, get_or-replicate, get_or_past}
+pub use Rattle.std.proofs.lemmas.List.{length-map, map-append, get_or-set_same, get_or-set_other, get_or-replicate, get_or_past}
 pub use Rattle.std.proofs.lemmas.List.FromFn.{length-map-range_with_len, get_or-map-range_with_len, fill_by_all, length-range_with_len, get_or-range_with_len}
 pub use Rattle.std.proofs.lemmas.List.Sums.{sum_by-cons, AllPass-from_list_all, list_all-from_AllPass}
 pub use Rattle.std.proofs.lemmas.Option.{slice_get_within, gets}
@@ -19,7 +19,7 @@ pub use Rattle.gc_netlist.specs.Spelling.{Word, Number, Name, SpellWords, words_
 pub use Rattle.gc_netlist.specs.Text.{number_of, is_blank, is_some_run, is_digit}
 unfoldable pub use Rattle.gc_netlist.specs.Text.{tokens, value_of}
 pub use Rattle.gc_netlist.specs.declared.fault.ReadFault.{ReadFault}
-pub use Rattle.gc_netlist.specs.declared.fault.ReadFault.TheVariants.{BadShape, UnknownOperation, BadConstant, NoSuchWire, Unset, SetTwice, OutputUnset, Truncated, Memory, BadNumber, TooLarge, WidthsExceedWires}
+pub use Rattle.gc_netlist.specs.declared.fault.ReadFault.TheVariants.{BadShape, UnknownOperation, BadConstant, NoSuchWire, Unset, SetTwice, OutputUnset, Truncated, Memory, BadNumber, WidthsExceedWires}
 pub use Rattle.gc_netlist.specs.declared.gate.Gate.{Gate}
 pub use Rattle.gc_netlist.specs.declared.gate.Operation.{Operation}
 pub use Rattle.gc_netlist.specs.declared.limits.TheConstants.{MAX_GATES, MAX_WIRES, MAX_VALUES}

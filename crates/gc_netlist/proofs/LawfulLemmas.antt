@@ -1,5 +1,5 @@
 -- A circuit whose gates and outputs pass their checks is lawful.
-use Rattle.gc_netlist.proofs.CommonNames.{◌≡◌, ℕ, ◌+◌, ◌-◌, ◌<◌, ◌≤◌, ◌++◌, ◌==◌, inl, inr, List, [], ◌∷◌, length, get_or, take, slice_get, Some, Ok, Bool, true, false, nat_lt, ◌∙◌, arith, list_all, range_with_len, both_ways, or_cases, or_right, ltb-true, common_steps, nat_tests, gets, AllPass-from_list_all, length-range_with_len, get_or-range_with_len, MAX_GATES, MAX_WIRES, MAX_VALUES, Gate, Netlist, input_wires, output_wires, EachRead, IsSetBy, IsSetBefore, IsSet, IsLawful, is_set, check_read, check_set, check_reads, check_gate, check_outputs}
+use Rattle.gc_netlist.proofs.CommonNames.{◌≡◌, ℕ, ◌+◌, ◌-◌, ◌<◌, ◌≤◌, ◌++◌, ◌==◌, inl, inr, List, [], ◌∷◌, length, take, slice_get, Some, Ok, Bool, true, false, nat_lt, ◌∙◌, arith, range_with_len, both_ways, or_cases, or_right, ltb-true, common_steps, nat_tests, gets, AllPass-from_list_all, length-range_with_len, get_or-range_with_len, MAX_GATES, MAX_WIRES, MAX_VALUES, Gate, Netlist, input_wires, output_wires, EachRead, IsSetBy, IsSetBefore, IsSet, IsLawful, is_set, check_read, check_set, check_reads, check_gate, check_outputs}
 use Rattle.std.proofs.Math.Seq.{take-length}
 use Rattle.std.proofs.lemmas.List.Folds.{Any-from_list_any}
 use Rattle.std.proofs.lemmas.Map.Keys.{any_passes_from_place}

@@ -1,5 +1,5 @@
 -- Tables of values on the wires, as lists.
-use Rattle.gc_netlist.proofs.CommonNames.{◌≡◌, ℕ, zero, suc, ◌+◌, ◌-◌, ◌<◌, ◌≤◌, inl, inr, List, length, length-set, map, set, drop, get_or, slice_get, add-one, Some, refl, sym, ap, ◌∙◌, arith, replicate, ◌++◌, nat_tests, cases_lt, get_or-set_same, get_or-set_other, get_or_append_left, get_or-append_right, get_or-replicate, get_or_past, length-map-range_with_len, get_or-map-range_with_len, fill_by_all, range_with_len, common_steps, Gate, Netlist, EachRead, IsSetBefore, IsLawful}
+use Rattle.gc_netlist.proofs.CommonNames.{◌≡◌, ℕ, zero, suc, ◌+◌, ◌-◌, ◌<◌, ◌≤◌, inl, inr, List, length, length-set, map, set, drop, get_or, slice_get, add-one, Some, refl, ap, ◌∙◌, arith, replicate, ◌++◌, nat_tests, get_or-set_same, get_or-set_other, get_or-replicate, get_or_past, length-map-range_with_len, get_or-map-range_with_len, fill_by_all, range_with_len, common_steps, Gate, Netlist, EachRead, IsSetBefore, IsLawful}
 use Rattle.gc_netlist.proofs.SolutionLemmas.{EachRead-map}
 use Rattle.gc_netlist.specs.Solution.{IsLocal, put, values_after}
 
