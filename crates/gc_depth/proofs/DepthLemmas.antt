@@ -1,24 +1,7 @@
 -- Gates in order of depth read only wires that are set before them.
-use Rattle.std.proofs.Common.{◌≡◌, ℕ, zero, suc, ◌+◌, ◌*◌, ◌<◌, ◌≤◌, ◌==◌, ◌++◌, ◌⊎◌, inl, inr, List, [], ◌∷◌, length, get_or, take, slice_get, Some, Bool, true, false, not, cond, refl, ap, ◌∙◌, arith, append_assoc, add-one}
-use Rattle.std.specs.Int.{from_bool}
-use Rattle.std.specs.List.{AllByRecursion, Contains}
-use Rattle.std.specs.List.Sorted.{IsPermutation}
-use Rattle.std.proofs.lemmas.Bool.{cases_lt, cases_eq}
-use Rattle.std.proofs.lemmas.Bool.Decides.{nat_tests}
+use Rattle.gc_depth.proofs.Names.{◌≡◌, ℕ, zero, suc, ◌+◌, ◌*◌, ◌<◌, ◌≤◌, ◌==◌, ◌++◌, ◌⊎◌, inl, inr, List, [], ◌∷◌, length, get_or, take, slice_get, Some, Bool, true, false, not, cond, refl, ap, ◌∙◌, arith, append_assoc, add-one, from_bool, AllByRecursion, Contains, IsPermutation, cases_lt, cases_eq, nat_tests, gets, slice_get_within, slice_get-get_or, append-nil, take-append-le, take_all, length-append, length-take, take-length, take-append_seam, Contains-append_left, Contains-append_right, filter_more, Gate, Netlist, is_and, input_wires, EachRead, IsSetBefore, IsLawful, IsLocal, EachRead-map, solution_solves, with_gates, and_depth_of, and_depth_rule, AreAndDepths, and_depths, rank_of, rank_in, IsByDepth, IsReordering, of_rank, by_rank}
 use Rattle.std.proofs.lemmas.Grind.{common_steps}
-use Rattle.std.proofs.lemmas.Option.{gets, slice_get_within, slice_get-get_or}
-use Rattle.std.proofs.lemmas.List.{append-nil, take-append-le, take_all, length-append, length-take}
-use Rattle.std.proofs.Math.Seq.{take-length}
-use Rattle.std.proofs.lemmas.List.Elements.{Contains-append_left, Contains-append_right, filter_more}
-use Rattle.gc_netlist.specs.declared.gate.Gate.{Gate}
 use Rattle.gc_netlist.specs.declared.gate.Operation.{Operation}
-use Rattle.gc_netlist.specs.Circuit.{Netlist, is_and, input_wires, EachRead, IsSetBefore, IsLawful}
-use Rattle.gc_netlist.specs.Solution.{IsLocal}
-use Rattle.gc_netlist.proofs.SolutionLemmas.{EachRead-map, solution_solves}
-use Rattle.gc_circuit.specs.Gates.{with_gates}
-use Rattle.gc_depth.specs.Depth.{and_depth_of, and_depth_rule, AreAndDepths, and_depths, rank_of, rank_in, IsByDepth}
-use Rattle.gc_depth.specs.Order.{IsReordering}
-use Rattle.gc_depth.specs.Ranks.{of_rank, by_rank}
 use Rattle.gc_depth.proofs.RankLemmas.{permuted, nondecreasing}
 use Rattle.gc_depth.proofs.ReorderLemmas.{contains_at, at_contains, contains_filter, none, reordered_lawful, solves_too}
 
@@ -80,22 +63,26 @@ module _ (c : Netlist) (lawful : IsLawful c) where
         let within = slice_get_within (gates ++ h ∷ []) p g at in
         let here : p ≡ length gates = omega (arith, within, length-append gates (h ∷ [])) in
         let same : h ≡ g = last_is gates h g (rw here at at) in
-        let front : take p (gates ++ h ∷ []) ≡ gates =
-        take-append-le p gates (h ∷ []) (omega arith) ∙ take_all p gates last in
-        rw (front, ← same) reads
+        rw (here, take-append_seam gates (h ∷ []), ← same) reads
+  ]
+
+  -- A gate of rank k at most is among those of lower ranks, or among those of rank k.
+  contains_level : (k : ℕ) (gates : List Gate) (g : Gate) → r g ≤ k → Contains gates g →
+      (r g < k → Contains (by_rank r k c.gates) g) →
+      Contains (by_rank r k c.gates ++ of_rank r k gates) g
+  contains_level k gates g up here lower = elim (cases_lt (r g) k) [
+    | inl low ↦ Contains-append_left (by_rank r k c.gates) (of_rank r k gates) g (lower low)
+    | inr high ↦
+        let level : (r g == k) ≡ true = grind (arith, nat_tests) in
+        Contains-append_right (by_rank r k c.gates) (of_rank r k gates) g
+        (contains_filter (λ x. r x == k) gates g level here)
   ]
 
   contains_by_rank : (n : ℕ) (g : Gate) → r g < n → Contains c.gates g →
       Contains (by_rank r n c.gates) g
   contains_by_rank zero g below h = absurd (omega arith)
-  contains_by_rank (suc n) g below h = elim (cases_lt (r g) n) [
-    | inl low ↦ Contains-append_left (by_rank r n c.gates) (of_rank r n c.gates) g
-        (contains_by_rank n g low h)
-    | inr high ↦
-        let e : (r g == n) ≡ true = grind (arith, nat_tests) in
-        Contains-append_right (by_rank r n c.gates) (of_rank r n c.gates) g
-        (contains_filter (λ x. r x == n) c.gates g e h)
-  ]
+  contains_by_rank (suc n) g below h =
+      contains_level n c.gates g (omega arith) h (λ low. contains_by_rank n g low h)
 
   -- A wire that a gate reads is among those that gates of lower ranks set, and gates of its rank before it.
   set_in : (k i : ℕ) (h : Gate) → slice_get c.gates i ≡ Some h → r h ≡ k → (w : ℕ) →
@@ -105,17 +92,10 @@ module _ (c : Netlist) (lawful : IsLawful c) where
   set_in k i h at is w (inr (j, below, by)) low =
       let g = by.gate in
       let up : r g ≤ k = omega (arith, is, rank_of_setter j g w (r h) by.at by.wire low) in
-      let inside : Contains (by_rank r k c.gates ++ of_rank r k (take i c.gates)) g =
-      elim (cases_lt (r g) k) [
-        | inl lower ↦ Contains-append_left (by_rank r k c.gates) (of_rank r k (take i c.gates)) g
-            (contains_by_rank k g lower (contains_at c.gates j g by.at))
-        | inr level ↦
-            let e : (r g == k) ≡ true = grind (arith, nat_tests) in
-            let t : slice_get (take i c.gates) j ≡ Some g =
-            grind (arith, common_steps, gets, by.at) in
-            Contains-append_right (by_rank r k c.gates) (of_rank r k (take i c.gates)) g
-            (contains_filter (λ x. r x == k) (take i c.gates) g e (contains_at (take i c.gates) j g t))
-      ] in
+      let there : slice_get (take i c.gates) j ≡ Some g =
+      grind (arith, common_steps, gets, by.at) in
+      let inside = contains_level k (take i c.gates) g up (contains_at (take i c.gates) j g there)
+      (λ low. contains_by_rank k g low (contains_at c.gates j g by.at)) in
       inr (g, inside, by.wire)
 
   level_reads : (k i : ℕ) → i ≤ length c.gates → ReadsBefore (by_rank r k c.gates) →
@@ -163,29 +143,28 @@ module _ (c : Netlist) (lawful : IsLawful c) where
       )
 
   module _ (n : ℕ) (low : AllByRecursion (λ g. r g < n) c.gates) where
-    pub by_rank_permuted : IsPermutation c.gates (by_rank r n c.gates)
-    by_rank_permuted = permuted r n c.gates low
+    abbrev gates : List Gate
+    gates = by_rank r n c.gates
 
     -- The gates in order of rank make a lawful circuit.
-    pub by_rank_lawful : IsLawful (with_gates c (by_rank r n c.gates))
-    by_rank_lawful = reordered_lawful c lawful (by_rank r n c.gates) by_rank_permuted (λ p h at.
-        EachRead-map (IsSetIn (take p (by_rank r n c.gates)))
-        (IsSetBefore (with_gates c (by_rank r n c.gates)) p) h.operation
-        (set_before (by_rank r n c.gates) p) (by_rank_reads n p h at))
+    pub by_rank_lawful : IsLawful (with_gates c gates)
+    by_rank_lawful = reordered_lawful c lawful gates (permuted r n c.gates low) (λ p h at.
+        EachRead-map (IsSetIn (take p gates)) (IsSetBefore (with_gates c gates) p) h.operation
+        (set_before gates p) (by_rank_reads n p h at))
 
-    pub by_rank_reorders : IsReordering c (with_gates c (by_rank r n c.gates))
+    pub by_rank_reorders : IsReordering c (with_gates c gates)
     by_rank_reorders = record {
       wires = refl;
       input_widths = refl;
       output_widths = refl;
-      gates = by_rank_permuted;
+      gates = permuted r n c.gates low;
     }
 
     -- They are in order of depth.
-    pub by_rank_by_depth : IsByDepth (with_gates c (by_rank r n c.gates))
+    pub by_rank_by_depth : IsByDepth (with_gates c gates)
     by_rank_by_depth = record {
       depth = and_depths c;
-      depths = solves_too and_depth_rule (λ v i j g. refl) c (with_gates c (by_rank r n c.gates))
-          by_rank_reorders (λ _. 0) (and_depths c) (depths_are c lawful);
+      depths = solves_too and_depth_rule (λ v i j g. refl) c (with_gates c gates) by_rank_reorders
+          (λ _. 0) (and_depths c) (depths_are c lawful);
       in_order = nondecreasing r n c.gates;
     }

@@ -1,10 +1,6 @@
 -- Circuits that differ in the order of their gates compute the same.
-use Rattle.std.proofs.Common.{Bool, List, cond, refl, ◌∙◌}
-use Rattle.std.proofs.lemmas.List.Sorted.{sum_by-IsPermutation}
-use Rattle.gc_netlist.specs.declared.gate.Gate.{Gate}
-use Rattle.gc_netlist.specs.Circuit.{Netlist, is_and}
+use Rattle.gc_depth.proofs.Names.{Bool, List, cond, refl, ◌∙◌, sum_by-IsPermutation, Gate, Netlist, is_and, IsReordering, ComputesSame}
 use Rattle.gc_circuit.specs.Meaning.{bit_rule, bits_of, AreOutputs}
-use Rattle.gc_depth.specs.Order.{IsReordering, ComputesSame}
 use Rattle.gc_depth.proofs.ReorderLemmas.{reordering_back, solves_too}
 
 outputs_too : (c d : Netlist) → IsReordering c d → (x outputs : List Bool) →

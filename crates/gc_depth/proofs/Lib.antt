@@ -1,3 +1,4 @@
+pub mod Names
 pub mod RankLemmas
 pub mod ReorderLemmas
 pub mod CountLemmas

@@ -1,20 +1,8 @@
 -- A circuit with its gates in another order.
-use Rattle.std.proofs.Common.{◌≡◌, ◌≢◌, ℕ, zero, suc, ◌<◌, ◌≤◌, ◌==◌, inl, inr, List, [], ◌∷◌, length, map, sum, get_or, slice_get, Some, Bool, true, false, cond, refl, sym, ap, ◌∙◌, subst, arith}
-use Rattle.std.specs.List.{filter, Contains, IsDistinct}
-use Rattle.std.specs.List.Sorted.{IsPermutation}
-use Rattle.std.proofs.lemmas.Bool.Decides.{nat_tests}
-use Rattle.std.proofs.lemmas.Option.{slice_get_within, slice_get_read, slice_get-get_or, get_or_from_slice_get}
-use Rattle.std.proofs.lemmas.List.{length-map, get_or-map}
-use Rattle.std.proofs.lemmas.List.Elements.{Contains-append_right}
-use Rattle.std.proofs.lemmas.List.Sorted.{Contains-permutation, IsPermutation-sym, IsPermutation-map, length_permutation}
+use Rattle.gc_depth.proofs.Names.{◌≡◌, ◌≢◌, ℕ, zero, suc, ◌<◌, ◌≤◌, ◌==◌, inl, inr, List, [], ◌∷◌, length, map, sum, drop, get_or, slice_get, Some, Bool, true, false, cond, refl, sym, ap, ◌∙◌, subst, arith, filter, Contains, IsDistinct, IsPermutation, nat_tests, slice_get_within, slice_get_read, slice_get-get_or, get_or_from_slice_get, drop-cons, length-map, get_or-map, take-append-drop, Contains-append_right, filter-append, Contains-permutation, IsPermutation-sym, IsPermutation-map, length_permutation, Gate, Netlist, EachRead, IsSetBefore, IsSet, IsLawful, Solves, with_gates, IsReordering}
 use Rattle.std.proofs.lemmas.Map.Keys.{IsDistinct-from_apart, IsDistinct-IsPermutation, apart_from_distinct}
 use Rattle.gc_netlist.specs.declared.limits.TheConstants.{MAX_GATES}
-use Rattle.gc_netlist.specs.declared.gate.Gate.{Gate}
 use Rattle.gc_netlist.specs.declared.gate.Operation.TheVariants.{Eq}
-use Rattle.gc_netlist.specs.Circuit.{Netlist, EachRead, IsSetBefore, IsSet, IsLawful}
-use Rattle.gc_netlist.specs.Solution.{Solves}
-use Rattle.gc_circuit.specs.Gates.{with_gates}
-use Rattle.gc_depth.specs.Order.{IsReordering}
 
 -- An item at a place is one that the list contains.
 pub contains_at : {X : Type 0} (xs : List X) (i : ℕ) (x : X) → slice_get xs i ≡ Some x → Contains xs x
@@ -23,20 +11,12 @@ contains_at xs i x at = (i, slice_get_within xs i x at, get_or_from_slice_get xs
 pub at_contains : {X : Type 0} (xs : List X) (x : X) → Contains xs x → (i : ℕ) × (slice_get xs i ≡ Some x)
 at_contains xs x (i, within, is) = (i, slice_get_read xs (length xs) i x refl within (sym is))
 
-contains_cond : {X : Type 0} (b : Bool) (y : X) (xs : List X) (x : X) → Contains xs x →
-    Contains (cond b (y ∷ xs) xs) x
-contains_cond true y xs x h = Contains-append_right (y ∷ []) xs x h
-contains_cond false y xs x h = h
-
 pub contains_filter : {X : Type 0} (p : X → Bool) (xs : List X) (x : X) → p x ≡ true →
     Contains xs x → Contains (filter p xs) x
-contains_filter p [] x passes (k, within, is) = absurd (omega arith)
-contains_filter p (y ∷ ys) x passes (zero, within, is) =
-    let e : y ≡ x = is in
-    let q : p y ≡ true = rw e passes in
-    rw q (0, omega arith, e)
-contains_filter p (y ∷ ys) x passes (suc k, within, is) =
-    contains_cond (p y) y (filter p ys) x (contains_filter p ys x passes (k, omega arith, is))
+contains_filter p xs x passes (k, within, is) =
+    let cut = rw is at (drop-cons xs k x within) in
+    rw (← take-append-drop k xs, cut, filter-append, passes)
+    (Contains-append_right _ (x ∷ filter p (drop (suc k) xs)) x (0, omega arith, refl))
 
 abbrev pub set_by : Gate → ℕ
 set_by g = g.set
@@ -45,21 +25,24 @@ set_by g = g.set
 pub none : Gate
 none = record { operation = Eq false; set = 0 }
 
-gate_at : (gates : List Gate) (i : ℕ) (d : ℕ) → i < length gates →
-    (g : Gate) × (slice_get gates i ≡ Some g) × (get_or (map set_by gates) i d ≡ g.set)
-gate_at gates i d within =
-    (get_or gates i none, slice_get-get_or gates i none within, get_or-map set_by gates i none d within)
+-- what the gate at a place sets
+sets_at : (gates : List Gate) (i : ℕ) (g : Gate) (d : ℕ) → slice_get gates i ≡ Some g →
+    get_or (map set_by gates) i d ≡ g.set
+sets_at gates i g d at = get_or-map set_by gates i g d (slice_get_within gates i g at)
+    ∙ ap set_by (get_or_from_slice_get gates i g g at)
 
 module _ (c : Netlist) (lawful : IsLawful c) where
   -- no two gates set one wire
   distinct : IsDistinct (λ (a b : ℕ). a == b) (map set_by c.gates)
   distinct = IsDistinct-from_apart (λ (a b : ℕ). a == b) (map set_by c.gates) (λ i j d below within.
       let long = length-map c.gates set_by in
-      let first = gate_at c.gates i d (omega (arith, long, within, below)) in
-      let last = gate_at c.gates j d (omega (arith, long, within)) in
-      let apart : first.0.set ≢ last.0.set = λ e. lawful.sets_once j last.0 last.1
-      (inr (i, below, record { gate = first.0; at = first.1; wire = e })) in
-      rw (first.2, last.2) (grind (arith, nat_tests)))
+      let g = get_or c.gates i none in
+      let h = get_or c.gates j none in
+      let at_i = slice_get-get_or c.gates i none (omega (arith, long, within, below)) in
+      let at_j = slice_get-get_or c.gates j none (omega (arith, long, within)) in
+      let apart : g.set ≢ h.set = λ same. lawful.sets_once j h at_j
+      (inr (i, below, record { gate = g; at = at_i; wire = same })) in
+      rw (sets_at c.gates i g d at_i, sets_at c.gates j h d at_j) (grind (arith, nat_tests)))
 
   module _ (gates : List Gate) (permuted : IsPermutation c.gates gates) where
     there : (g : Gate) → Contains gates g → Contains c.gates g
@@ -72,15 +55,10 @@ module _ (c : Netlist) (lawful : IsLawful c) where
     two_apart : (i j : ℕ) (g h : Gate) → i < j → slice_get gates i ≡ Some g →
         slice_get gates j ≡ Some h → g.set ≢ h.set
     two_apart i j g h below at_i at_j same =
-        let in_i = slice_get_within gates i g at_i in
-        let in_j = slice_get_within gates j h at_j in
-        let apart = apart_from_distinct (λ (a b : ℕ). a == b) (map set_by gates) i j 0 distinct_too below
-        (omega (arith, length-map gates set_by, in_j)) in
-        let e : get_or (map set_by gates) i 0 ≡ g.set = get_or-map set_by gates i g 0 in_i
-        ∙ ap set_by (get_or_from_slice_get gates i g g at_i) in
-        let f : get_or (map set_by gates) j 0 ≡ h.set = get_or-map set_by gates j h 0 in_j
-        ∙ ap set_by (get_or_from_slice_get gates j h h at_j) in
-        let a = rw (e, f) at apart in
+        let within = slice_get_within gates j h at_j in
+        let apart = rw (sets_at gates i g 0 at_i, sets_at gates j h 0 at_j) at
+        (apart_from_distinct (λ (a b : ℕ). a == b) (map set_by gates) i j 0 distinct_too below
+        (omega (arith, length-map gates set_by, within))) in
         grind (arith, nat_tests)
 
     -- A wire that a gate sets is set.

@@ -7,8 +7,8 @@ use Rattle.std.proofs.lemmas.List.FromFn.{fill_by_all}
 use Rattle.gc_label.specs.Label.{colour, label_of_bytes, bytes_of_label}
 
 -- a label whose colour is set has the colour 1
-pub colour-bit_or : (label : ℕ) → IsTrue (colour (bit_or label (2 ^ 120)))
-colour-bit_or label =
+pub colour_bit_or : (label : ℕ) → IsTrue (colour (bit_or label (2 ^ 120)))
+colour_bit_or label =
     let one : bit_at (bit_or label (2 ^ 120)) 120 ≡ 1 =
     omega (arith, bit_at_or label (2 ^ 120) 120, bit_at-pow_same 120, bit_at-lt label 120) in
     rw one

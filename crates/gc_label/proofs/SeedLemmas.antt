@@ -4,7 +4,7 @@ use Rattle.std.proofs.lemmas.Nat.{or_lt}
 use Rattle.rand_chacha.specs.ChaCha.{ChaCha, key_of}
 use Rattle.gc_label.specs.Label.{colour, label_of_bytes}
 use Rattle.gc_label.specs.Seed.{label_of_words, label_at, offset_of, input_label_of}
-use Rattle.gc_label.proofs.LabelLemmas.{colour-bit_or}
+use Rattle.gc_label.proofs.LabelLemmas.{colour_bit_or}
 
 -- the generator of a seed's keystream, about to read word p
 abbrev pub generator_at : List ℕ → ℕ → ChaCha
@@ -13,7 +13,7 @@ generator_at seed p = record { key = key_of seed; stream = 0; word_pos = p }
 -- the colour of an offset is 1
 pub colour-offset_of : (seed : List ℕ) → colour (offset_of seed) ≡ true
 unfolding offset_of
-colour-offset_of seed = colour-bit_or (label_at seed 0)
+colour-offset_of seed = colour_bit_or (label_at seed 0)
 
 -- the label of four words is below 2 ^ 128
 label_of_words-lt : (a b c d : ℕ) → label_of_words a b c d < 2 ^ 128

@@ -184,6 +184,7 @@ impl Offset {
     }
 
     /// The offset with the bytes of a label, whose colour is set to 1.
+    #[tactic(auto, using(crate::proofs::LabelLemmas::colour_bit_or))]
     pub(crate) fn from_label(label: Label) -> Offset
         ensures { result ≡ bit_or label (2 ^ 120) }
     {

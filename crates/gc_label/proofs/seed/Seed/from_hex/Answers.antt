@@ -10,17 +10,9 @@ use Rattle.gc_circuit.proofs.ValueLemmas.{digits_more}
 use Rattle.gc_label.proofs.seed.Seed.from_hex.Goals as goal
 
 -- two digits, from their values
-of_values : (high low i : ℕ) (o p : Option ℕ) → (is_some o && is_some p) ≡ true →
-    (digit_or_error high i o >>= (λ h. digit_or_error low (i + 1) p >>= (λ l. Ok (h * 16 + l))))
-    ≡ Ok (16 * unwrap_or o 0 + unwrap_or p 0)
-of_values high low i (Some h) (Some l) both = ap Ok (omega arith)
-of_values high low i (Some h) None both = cc
-of_values high low i None p both = cc
-
 pair_of_digits : (high low i : ℕ) → (is_hex_digit high && is_hex_digit low) ≡ true →
     pair_value high low i ≡ Ok (16 * digit_value high + digit_value low)
-pair_of_digits high low i both =
-    of_values high low i (hex_digit_value high) (hex_digit_value low) both
+pair_of_digits high low i both = grind arith
 
 pub loop-i-init : goal.loop-i-init
 loop-i-init c = record { long = refl; digits = refl; bytes = λ all. decode_start _ [] }
