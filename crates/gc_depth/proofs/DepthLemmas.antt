@@ -1,5 +1,5 @@
 -- Gates in order of depth read only wires that are set before them.
-use Rattle.gc_depth.proofs.Names.{◌≡◌, ℕ, zero, suc, ◌+◌, ◌*◌, ◌<◌, ◌≤◌, ◌==◌, ◌++◌, ◌⊎◌, inl, inr, List, [], ◌∷◌, length, get_or, take, slice_get, Some, Bool, true, false, not, cond, refl, ap, ◌∙◌, arith, append_assoc, add-one, from_bool, AllByRecursion, Contains, IsPermutation, cases_lt, cases_eq, nat_tests, gets, slice_get_within, slice_get-get_or, append-nil, take-append-le, take_all, length-append, length-take, take-length, take-append_seam, Contains-append_left, Contains-append_right, filter_more, Gate, Netlist, is_and, input_wires, EachRead, IsSetBefore, IsLawful, IsLocal, EachRead-map, solution_solves, with_gates, and_depth_of, and_depth_rule, AreAndDepths, and_depths, rank_of, rank_in, IsByDepth, IsReordering, of_rank, by_rank}
+use Rattle.gc_depth.proofs.Names.{◌≡◌, ℕ, zero, suc, ◌+◌, ◌*◌, ◌<◌, ◌≤◌, ◌==◌, ◌++◌, ◌⊎◌, inl, inr, List, [], ◌∷◌, length, get_or, take, slice_get, Some, Bool, true, false, not, cond, refl, ap, arith, append_assoc, add-one, from_bool, AllByRecursion, Contains, cases_lt, cases_eq, nat_tests, gets, slice_get_within, slice_get-get_or, append-nil, take-append-le, length-append, length-take, take-length, take-append_seam, Contains-append_left, Contains-append_right, filter_more, Gate, Netlist, is_and, input_wires, EachRead, IsSetBefore, IsLawful, IsLocal, EachRead-map, solution_solves, with_gates, and_depth_of, and_depth_rule, AreAndDepths, and_depths, rank_of, rank_in, IsByDepth, IsReordering, of_rank, by_rank}
 use Rattle.std.proofs.lemmas.Grind.{common_steps}
 use Rattle.gc_netlist.specs.declared.gate.Operation.{Operation}
 use Rattle.gc_depth.proofs.RankLemmas.{permuted, nondecreasing}

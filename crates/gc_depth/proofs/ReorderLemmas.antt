@@ -1,5 +1,5 @@
 -- A circuit with its gates in another order.
-use Rattle.gc_depth.proofs.Names.{◌≡◌, ◌≢◌, ℕ, zero, suc, ◌<◌, ◌≤◌, ◌==◌, inl, inr, List, [], ◌∷◌, length, map, sum, drop, get_or, slice_get, Some, Bool, true, false, cond, refl, sym, ap, ◌∙◌, subst, arith, filter, Contains, IsDistinct, IsPermutation, nat_tests, slice_get_within, slice_get_read, slice_get-get_or, get_or_from_slice_get, drop-cons, length-map, get_or-map, take-append-drop, Contains-append_right, filter-append, Contains-permutation, IsPermutation-sym, IsPermutation-map, length_permutation, Gate, Netlist, EachRead, IsSetBefore, IsSet, IsLawful, Solves, with_gates, IsReordering}
+use Rattle.gc_depth.proofs.Names.{◌≡◌, ◌≢◌, ℕ, suc, ◌<◌, ◌≤◌, ◌==◌, inl, inr, List, ◌∷◌, length, map, sum, drop, get_or, slice_get, Some, Bool, true, false, refl, sym, ap, ◌∙◌, subst, arith, filter, Contains, IsDistinct, IsPermutation, nat_tests, slice_get_within, slice_get_read, slice_get-get_or, get_or_from_slice_get, drop-cons, length-map, get_or-map, take-append-drop, Contains-append_right, filter-append, Contains-permutation, IsPermutation-sym, IsPermutation-map, length_permutation, Gate, Netlist, EachRead, IsSetBefore, IsSet, IsLawful, Solves, with_gates, IsReordering}
 use Rattle.std.proofs.lemmas.Map.Keys.{IsDistinct-from_apart, IsDistinct-IsPermutation, apart_from_distinct}
 use Rattle.gc_netlist.specs.declared.limits.TheConstants.{MAX_GATES}
 use Rattle.gc_netlist.specs.declared.gate.Operation.TheVariants.{Eq}
