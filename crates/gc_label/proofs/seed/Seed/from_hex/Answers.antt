@@ -17,11 +17,6 @@ pair_of_digits high low i both = grind arith
 pub loop-i-init : goal.loop-i-init
 loop-i-init c = record { long = refl; digits = refl; bytes = λ all. decode_start _ [] }
 
--- the digits that were read, as those of the text
-abbrev both : List ℕ → ℕ → Bool
-both digits i =
-    is_hex_digit (slice_index digits (2 * i)) && is_hex_digit (slice_index digits (2 * i + 1))
-
 -- both tests hold
 and_true : (a b : Bool) → (a && b) ≡ true → (a ≡ true) × (b ≡ true)
 and_true a b h = grind arith
@@ -33,11 +28,9 @@ loop-i-preserved c =
     let before = c.loop-i.invariant in
     let byte = c.byte_of-byte.ensures in
     let fits : 2 * i + 1 < length digits = omega arith in
-    let long = before.long in
     record {
-      long = length-set _ _ _ ∙ long;
-      digits = rw (digits_more digits i fits, before.digits)
-          (ap (λ (b : Bool). c.loop-i.are_digits && b) (sym byte.digits));
+      long = length-set _ _ _ ∙ before.long;
+      digits = cc (digits_more digits i fits, before.digits, byte.digits);
       bytes = λ all.
           let parts = and_true c.loop-i.are_digits c.byte_of-byte.result.1 all in
           let pair = pair_of_digits (slice_index digits (2 * i)) (slice_index digits (2 * i + 1))
@@ -63,7 +56,6 @@ pub returns-then-are_digits-clause-bytes : goal.returns-then-are_digits-clause-b
 returns-then-are_digits-clause-bytes c =
     let digits = c.as_bytes-digits.result.now in
     let even : length digits % 2 ≡ 0 = omega arith in
-    let long = c.loop-i.invariant.long in
     let done = decode_done digits c.loop-i.bytes c.loop-i.i (omega arith) (omega arith)
     (c.loop-i.invariant.bytes c.if-are_digits.true) in
     rw c.from_bytes.ensures (rw c.as_bytes-digits.ensures.value
