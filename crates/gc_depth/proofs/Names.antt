@@ -1,5 +1,5 @@
 -- The names that most proofs of this crate cite, passed on from one place. Declares nothing.
-pub use Rattle.std.proofs.Common.{Bool, List, cond, refl, ◌∙◌, ◌≡◌, ℕ, zero, suc, ◌+◌, ◌*◌, ◌<◌, ◌≤◌, ◌==◌, ◌++◌, ◌⊎◌, inl, inr, [], ◌∷◌, length, get_or, take, slice_get, Some, true, false, not, ap, arith, append_assoc, add-one, ◌-◌, max, map, set, replicate, slice_index, sym, ◌≢◌, drop, nat_lt, subst, length-drop, sum}
+pub use Rattle.std.proofs.Common.{nat_lt, Bool, List, cond, refl, ◌∙◌, ◌≡◌, ℕ, zero, suc, ◌+◌, ◌*◌, ◌<◌, ◌≤◌, ◌==◌, ◌++◌, ◌⊎◌, inl, inr, [], ◌∷◌, length, get_or, take, slice_get, Some, true, false, not, ap, arith, append_assoc, add-one, ◌-◌, max, map, set, replicate, slice_index, sym, ◌≢◌, drop, nat_lt, length-drop, sum}
 pub use Rattle.std.proofs.Math.Seq.{take-length, take-append_seam, take-add, drop-cons}
 pub use Rattle.std.proofs.lemmas.Bool.{cases_lt, cases_eq}
 pub use Rattle.std.proofs.lemmas.Bool.Decides.{nat_tests}

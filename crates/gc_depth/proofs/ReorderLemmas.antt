@@ -1,7 +1,6 @@
 -- A circuit with its gates in another order.
-use Rattle.gc_depth.proofs.Names.{◌≡◌, ◌≢◌, ℕ, suc, ◌<◌, ◌≤◌, ◌==◌, inl, inr, List, ◌∷◌, length, map, sum, drop, get_or, slice_get, Some, Bool, true, false, refl, sym, ap, ◌∙◌, subst, arith, filter, Contains, IsDistinct, IsPermutation, nat_tests, slice_get_within, slice_get_read, slice_get-get_or, get_or_from_slice_get, drop-cons, length-map, get_or-map, take-append-drop, Contains-append_right, filter-append, Contains-permutation, IsPermutation-sym, IsPermutation-map, length_permutation, Gate, Netlist, EachRead, IsSetBefore, IsSet, IsLawful, Solves, with_gates, IsReordering}
+use Rattle.gc_depth.proofs.Names.{◌≡◌, ◌≢◌, ℕ, suc, ◌<◌, ◌≤◌, ◌==◌, inl, inr, List, ◌∷◌, length, map, sum, drop, get_or, slice_get, Some, Bool, true, false, refl, sym, ap, ◌∙◌, arith, filter, Contains, IsDistinct, IsPermutation, nat_tests, slice_get_within, slice_get_read, slice_get-get_or, get_or_from_slice_get, drop-cons, length-map, get_or-map, take-append-drop, Contains-append_right, filter-append, Contains-permutation, IsPermutation-sym, IsPermutation-map, length_permutation, Gate, Netlist, EachRead, IsSetBefore, IsSet, IsLawful, Solves, with_gates, IsReordering}
 use Rattle.std.proofs.lemmas.Map.Keys.{IsDistinct-from_apart, IsDistinct-IsPermutation, apart_from_distinct}
-use Rattle.gc_netlist.specs.declared.limits.TheConstants.{MAX_GATES}
 use Rattle.gc_netlist.specs.declared.gate.Operation.TheVariants.{Eq}
 
 -- An item at a place is one that the list contains.
@@ -10,6 +9,11 @@ contains_at xs i x at = (i, slice_get_within xs i x at, get_or_from_slice_get xs
 
 pub at_contains : {X : Type 0} (xs : List X) (x : X) → Contains xs x → (i : ℕ) × (slice_get xs i ≡ Some x)
 at_contains xs x (i, within, is) = (i, slice_get_read xs (length xs) i x refl within (sym is))
+
+-- An item at a place is at some place where the items are in another order.
+moved : {X : Type 0} (xs ys : List X) → IsPermutation xs ys → (i : ℕ) (x : X) →
+    slice_get xs i ≡ Some x → (j : ℕ) × (slice_get ys j ≡ Some x)
+moved xs ys same i x at = at_contains ys x (Contains-permutation xs ys x same (contains_at xs i x at))
 
 pub contains_filter : {X : Type 0} (p : X → Bool) (xs : List X) (x : X) → p x ≡ true →
     Contains xs x → Contains (filter p xs) x
@@ -45,58 +49,47 @@ module _ (c : Netlist) (lawful : IsLawful c) where
       rw (sets_at c.gates i g d at_i, sets_at c.gates j h d at_j) (grind (arith, nat_tests)))
 
   module _ (gates : List Gate) (permuted : IsPermutation c.gates gates) where
-    there : (g : Gate) → Contains gates g → Contains c.gates g
-    there g h = Contains-permutation gates c.gates g (IsPermutation-sym c.gates gates permuted) h
+    back : IsPermutation gates c.gates
+    back = IsPermutation-sym c.gates gates permuted
 
     distinct_too : IsDistinct (λ (a b : ℕ). a == b) (map set_by gates)
     distinct_too = IsDistinct-IsPermutation (λ (a b : ℕ). a == b) (λ a b. grind (arith, nat_tests))
         (map set_by c.gates) (map set_by gates) (IsPermutation-map set_by c.gates gates permuted) distinct
 
-    two_apart : (i j : ℕ) (g h : Gate) → i < j → slice_get gates i ≡ Some g →
-        slice_get gates j ≡ Some h → g.set ≢ h.set
-    two_apart i j g h below at_i at_j same =
-        let within = slice_get_within gates j h at_j in
-        let apart = rw (sets_at gates i g 0 at_i, sets_at gates j h 0 at_j) at
-        (apart_from_distinct (λ (a b : ℕ). a == b) (map set_by gates) i j 0 distinct_too below
+    -- No gate sets an input wire, or a wire that a gate before it sets.
+    once : (i : ℕ) (g : Gate) → slice_get gates i ≡ Some g →
+        IsSetBefore (with_gates c gates) i g.set → ⊥
+    once i g at (inl input) =
+        let (j, at_j) = moved gates c.gates back i g at in lawful.sets_once j g at_j (inl input)
+    once i g at (inr (k, below, by)) =
+        let within = slice_get_within gates i g at in
+        let apart = rw (sets_at gates k by.gate 0 by.at, sets_at gates i g 0 at) at
+        (apart_from_distinct (λ (a b : ℕ). a == b) (map set_by gates) k i 0 distinct_too below
         (omega (arith, length-map gates set_by, within))) in
-        grind (arith, nat_tests)
+        grind (arith, nat_tests, by.wire)
 
     -- A wire that a gate sets is set.
     set_too : (w : ℕ) → IsSet c w → IsSet (with_gates c gates) w
     set_too w (inl input) = inl input
     set_too w (inr (i, below, by)) =
-        let (j, at) = at_contains gates by.gate (Contains-permutation c.gates gates by.gate permuted
-        (contains_at c.gates i by.gate by.at)) in
-        inr (
-          j,
-          slice_get_within gates j by.gate at,
-          record { gate = by.gate; at = at; wire = by.wire },
-        )
+        let (j, at) = moved c.gates gates permuted i by.gate by.at in
+        inr (j, slice_get_within gates j by.gate at, record { gate = by.gate; at = at; wire = by.wire })
 
     -- If each gate reads only wires that are set before it, the circuit is lawful.
     pub reordered_lawful : ((i : ℕ) (g : Gate) → slice_get gates i ≡ Some g →
         EachRead (IsSetBefore (with_gates c gates) i) g.operation) → IsLawful (with_gates c gates)
     reordered_lawful reads = record {
-      few_gates = subst (λ n. n ≤ MAX_GATES) (sym (length_permutation c.gates gates permuted)) lawful.few_gates;
+      few_gates = omega (arith, length_permutation c.gates gates permuted, lawful.few_gates);
       few_wires = lawful.few_wires;
       few_inputs = lawful.few_inputs;
       few_outputs = lawful.few_outputs;
       inputs_fit = lawful.inputs_fit;
       outputs_fit = lawful.outputs_fit;
       reads = reads;
-      sets = λ i g at.
-          let (j, at_j) = at_contains c.gates g (there g (contains_at gates i g at)) in
-          lawful.sets j g at_j;
-      sets_once = λ i g at before. once i g at before;
+      sets = λ i g at. let (j, at_j) = moved gates c.gates back i g at in lawful.sets j g at_j;
+      sets_once = once;
       outputs_set = λ w last below. set_too w (lawful.outputs_set w last below);
     }
-      where
-        once : (i : ℕ) (g : Gate) → slice_get gates i ≡ Some g →
-            IsSetBefore (with_gates c gates) i g.set → ⊥
-        once i g at (inl input) =
-            let (j, at_j) = at_contains c.gates g (there g (contains_at gates i g at)) in
-            lawful.sets_once j g at_j (inl input)
-        once i g at (inr (k, below, by)) = two_apart k i by.gate g below by.at at by.wire
 
 pub reordering_back : (c d : Netlist) → IsReordering c d → IsReordering d c
 reordering_back c d h = record {
@@ -114,7 +107,7 @@ pub solves_too : {A : Type 0} (rule : (ℕ → A) → ℕ → Gate → A) →
 solves_too rule placeless c d same given values s = record {
   inputs = λ w h. s.inputs w (omega (arith, h, ap sum same.input_widths));
   gates = λ i g at.
-      let (j, at_j) = at_contains c.gates g (Contains-permutation d.gates c.gates g
-      (IsPermutation-sym c.gates d.gates same.gates) (contains_at d.gates i g at)) in
+      let (j, at_j) =
+      moved d.gates c.gates (IsPermutation-sym c.gates d.gates same.gates) i g at in
       s.gates j g at_j ∙ placeless values j i g;
 }
