@@ -1,5 +1,5 @@
 -- The message schedules of blocks that follow one another.
-use Rattle.gc_lanes.proofs.Names.{◌≤◌, ◌-◌, ◌≡◌, ℕ, zero, suc, ◌+◌, ◌*◌, ◌%◌, ◌^◌, ◌<◌, List, drop, slice_index, take, ap, refl, sym, ◌∙◌, add-one, add-zero, arith, drop-drop, drop-take, get_or-drop, get_or-take, take-take, compress, hash_after, round, round_constants, rounds, word_at, slice_index-schedule_first, block_at, scheduled}
+use Rattle.gc_lanes.proofs.Names.{◌≤◌, ◌-◌, ◌≡◌, ℕ, zero, suc, ◌+◌, ◌*◌, ◌%◌, ◌^◌, ◌<◌, List, drop, slice_index, take, refl, sym, ◌∙◌, add-one, add-zero, arith, drop-drop, drop-take, get_or-drop, get_or-take, take-take, compress, hash_after, round, round_constants, rounds, word_at, slice_index-schedule_first, block_at, scheduled}
 use native.Mathlib.Nat.{mod-eq_of_lt}
 
 -- byte k of block j
@@ -19,6 +19,11 @@ scheduled-first p j t s lt e =
       byte-block p j (4 * t + 2) (s + 2) (omega arith) (omega arith),
       byte-block p j (4 * t + 3) (s + 3) (omega arith) (omega arith),
     ) refl
+
+-- no round
+pub rounds_none : (h ws : List ℕ) → rounds h ws 0 ≡ h
+unfolding rounds
+rounds_none h ws = refl
 
 -- one round more
 pub rounds-more : (h ws : List ℕ) (t : ℕ)

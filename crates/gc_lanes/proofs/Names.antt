@@ -1,7 +1,7 @@
 -- The names that most proofs of this crate cite, passed on from one place. Declares nothing.
 pub use Rattle.std.proofs.Common.{◌≡◌, ℕ, ◌<◌, ◌%◌, ◌^◌, List, length, map, ap, ◌∙◌, arith, bit_and, bit_xor, ◌/◌, [], ◌∷◌, get_or, below_more, below_none, ◌-◌, ◌*◌, bit_or, mod-lt, pow_pos, zero, suc, ◌+◌, drop, slice_index, take, refl, sym, add-one, add-zero, ◌++◌, replicate, ◌≤◌, length-append, length-drop, rules, slice_set}
 pub use Rattle.std.proofs.lemmas.Grind.{common_steps}
-pub use Rattle.std.proofs.lemmas.List.{get_or-map, drop-drop, drop-take, get_or-drop, get_or-take, take-take, append_assoc, drop-append-le, drop_all, drop_at, length-take-le, take-append-drop, take_at, take_rest, map-set, take_all, append-nil}
+pub use Rattle.std.proofs.lemmas.List.{get_or-map, drop-drop, drop-take, get_or-drop, get_or-take, take-take, append_assoc, drop-append-le, drop_all, length-take-le, take-append-drop, take_at, take_rest, map-set, append-nil}
 pub use Rattle.std.proofs.lemmas.Nat.{xor_lt, and_le_l, and_le_r, or_lt, shr_le, xor_mod, and_mod}
 pub use Rattle.std.proofs.lemmas.Simd.{Each1-get_or, get_or-zip2, zip2_splat, zip2-map}
 pub use Rattle.std.specs.Int.{w32, bit_not, w64, w128, from_be_bytes, to_be_bytes, to_le_bytes}

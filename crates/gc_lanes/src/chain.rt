@@ -112,6 +112,7 @@ fn four_rounds_of(rows: &Schedules, block: usize, variables: [u32; 8], t: usize)
 }
 
 /// Compresses one of the blocks.
+#[tactic(auto, using(crate::proofs::Chains::rounds_none), unfolding(sha2::specs::Sha256::compress))]
 fn compress_one(rows: &Schedules, block: usize, hash: &mut [u32; 8])
     requires { block < 8 }
     ensures { (p : List ℕ) → AreSchedules rows.now p

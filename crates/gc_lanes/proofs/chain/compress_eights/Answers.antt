@@ -1,4 +1,4 @@
-use Rattle.gc_lanes.proofs.Names.{◌≡◌, ◌+◌, ◌-◌, ◌*◌, ◌/◌, List, ℕ, length, take, drop, ap, refl, ◌∙◌, arith, take-take, hash_after}
+use Rattle.gc_lanes.proofs.Names.{◌≡◌, ◌+◌, ◌-◌, ◌*◌, ◌/◌, List, ℕ, take, drop, ap, refl, ◌∙◌, arith, take-take, hash_after}
 use Rattle.gc_lanes.proofs.Chains.{hash_after-joined}
 use Rattle.gc_lanes.proofs.chain.compress_eights.Goals as goal
 

@@ -1,4 +1,4 @@
-use Rattle.gc_lanes.proofs.Names.{common_steps, ◌≡◌, ◌+◌, ◌-◌, ◌%◌, ◌<◌, ◌≤◌, ℕ, List, [], ◌++◌, length, take, drop, arith, refl, ◌∙◌, length-append, length-drop, append-nil, drop_all, length-take-le, take_rest, initial_hash_256, total_append}
+use Rattle.gc_lanes.proofs.Names.{common_steps, ◌≡◌, ◌+◌, ◌-◌, ◌%◌, ◌<◌, ◌≤◌, ℕ, List, [], ◌++◌, length, take, drop, arith, refl, ◌∙◌, length-drop, append-nil, drop_all, length-take-le, take_rest, initial_hash_256, total_append}
 use Rattle.std.proofs.lemmas.Slice.{take-put_mid}
 use Rattle.gc_lanes.proofs.Messages.{hashed-long, hashed-short, left-long, left-short}
 use borrow.Rule.Slice.PartMut.{post_of, put_mid}
