@@ -162,8 +162,8 @@ module _ (ts : List (List ℕ)) where
   unfolding limited_at gate_at one_at operation_of_one gates_at check_outputs
   first_fault-met e (no_number words due s) = no_number_back words due [] Truncated s refl
   first_fault-met e (no_name r words due s) = name_back r words due [] Truncated s refl
-  first_fault-met e (bad_number words token rest due s none) =
-      no_number_back words due (token ∷ rest) BadNumber s (rw none refl)
+  first_fault-met e (bad_number words t rest due s none) =
+      no_number_back words due (t ∷ rest) BadNumber s (rw none refl)
   first_fault-met e (too_large words limit n rest due s above) =
       stops _ _ _ _ _ (limited_due_back words limit due) s (λ us s1. grind (arith, nat_tests))
   first_fault-met e (widths_exceed wires words widths rest side few s wide) =

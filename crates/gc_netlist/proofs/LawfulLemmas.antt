@@ -13,12 +13,9 @@ set_before c n w h = elim (or_cases (nat_lt w (input_wires c)) _ h) [
   | inr among ↦
       let (i, g, below, at, is) =
       Any-from_list_any (λ (g : Gate). g.set == w) (take n c.gates) among in
-      let by : IsSetBy c w i = record {
-        gate = g;
-        at = grind (arith, common_steps, gets);
-        wire = grind (arith, nat_tests);
-      } in
-      inr (i, grind (arith, common_steps), by)
+      let here : slice_get c.gates i ≡ Some g = grind (arith, common_steps, gets) in
+      let same : g.set ≡ w = grind (arith, nat_tests) in
+      inr (i, grind (arith, common_steps), record { gate = g; at = here; wire = same })
 ]
 
 -- and of all of them.

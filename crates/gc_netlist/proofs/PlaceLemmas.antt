@@ -32,8 +32,7 @@ kind_of ts e (widths_exceed wires words widths rest side few s above) =
     inside ts rest words (words_of_widths widths) s (omega (arith, length-map widths Number))
 kind_of ts e (bad_counts c words r k rest due s neither) =
     inside ts rest words (Number r ∷ Number k ∷ []) s (omega arith)
-kind_of ts e (unknown r words name rest due s none) =
-    inside ts rest words (Name name ∷ []) s (omega arith)
+kind_of ts e (unknown _ words name _ _ s _) = inside ts _ words (Name name ∷ []) s (omega arith)
 kind_of ts e (other_counts r k words name rest due s named other) =
     inside ts rest words (Name name ∷ []) s (omega arith)
 kind_of ts e (bad_constant c words v w rest due s above) =
@@ -48,8 +47,7 @@ kind_of ts e (no_wire_to_set c words g rest due s reads above) =
     inside ts rest words (words_of_gate g) s (omega (arith, has_reads g.set g.operation))
 kind_of ts e (set_twice c words g rest due s reads set) =
     inside ts rest words (words_of_gate g) s (omega (arith, has_reads g.set g.operation))
-kind_of ts e (output_unset c w rest whole s last below free) =
-    (length (words_of_circuit c), refl, omega arith)
+kind_of ts e (output_unset c _ _ _ _ _ _ _) = (length (words_of_circuit c), refl, omega arith)
 kind_of ts e (trailing c t rest lawful s) =
     let all = Spell-length ts (t ∷ rest) (words_of_circuit c) s in
     (length (words_of_circuit c), refl, omega arith)
