@@ -221,19 +221,16 @@ module _ (ts : List (List ℕ)) (c : Netlist) (words : List Word) (g : Gate) (re
   abbrev at_fault : WireBack
   at_fault = wire_at_fault c.wires (is_set (input_wires c) c.gates) g.set g.operation
 
-  set_place : length words + (length (words_of_gate g) - 2) + 2 + length rest ≡ length ts
-  set_place =
-      omega (arith, has_reads g.set g.operation, Spell-lengths ts rest words (words_of_gate g) s)
-
   pub check_fault : (e : ReadFault) →
       check_gate c.wires (is_set (input_wires c) c.gates) g ≡ Err e →
       IsMet ts e rest at_fault.1 (Some (length c.gates)) (Some at_fault.0)
   unfolding check_gate check_set
   check_fault e h =
+      let all = Spell-lengths ts rest words (words_of_gate g) s in
+      let four = has_reads g.set g.operation in
       bind_fails (check_reads c.wires (is_set (input_wires c) c.gates) g.operation) _ e h
       (λ bad.
       let (w, back, first, kind, found, place) = reads_fault c lawful g.operation g.set e bad in
-      let all = Spell-lengths ts rest words (words_of_gate g) s in
       elim kind [
         | inl p ↦ rw (p.1, found)
             (met (no_wire_to_read c words g w rest due s first p.0) tt (omega arith))
@@ -244,8 +241,9 @@ module _ (ts : List (List ℕ)) (c : Netlist) (words : List Word) (g : Gate) (re
       let why : ((is_set (input_wires c) c.gates g.set ≡ true) × (e ≡ SetTwice))
       ⊎ ((c.wires ≤ g.set) × (e ≡ NoSuchWire)) = grind (arith, nat_tests) in
       elim why [
-        | inl p ↦ rw (found, p.1)
-            (met (set_twice c words g rest due s reads (tested_set c g.set p.0)) tt set_place)
+        | inl p ↦
+            let set = tested_set c g.set p.0 in
+            rw (found, p.1) (met (set_twice c words g rest due s reads set) tt (omega arith))
         | inr p ↦ rw (found, p.1)
-            (met (no_wire_to_set c words g rest due s reads p.0) tt set_place)
+            (met (no_wire_to_set c words g rest due s reads p.0) tt (omega arith))
       ])
