@@ -1,6 +1,5 @@
 -- Gates in order of depth read only wires that are set before them.
-use Rattle.gc_depth.proofs.Names.{◌≡◌, ℕ, zero, suc, ◌+◌, ◌*◌, ◌<◌, ◌≤◌, ◌==◌, ◌++◌, ◌⊎◌, inl, inr, List, [], ◌∷◌, length, get_or, take, slice_get, Some, Bool, true, false, not, cond, refl, ap, arith, append_assoc, add-one, from_bool, AllByRecursion, Contains, cases_lt, cases_eq, nat_tests, gets, slice_get_within, slice_get-get_or, append-nil, take-append-le, length-append, length-take, take-length, take-append_seam, Contains-append_left, Contains-append_right, filter_more, Gate, Netlist, is_and, input_wires, EachRead, IsSetBefore, IsLawful, IsLocal, EachRead-map, solution_solves, with_gates, and_depth_of, and_depth_rule, AreAndDepths, and_depths, rank_of, rank_in, IsByDepth, IsReordering, of_rank, by_rank}
-use Rattle.std.proofs.lemmas.Grind.{common_steps}
+use Rattle.gc_depth.proofs.Names.{common_steps, ◌≡◌, ℕ, zero, suc, ◌+◌, ◌*◌, ◌<◌, ◌≤◌, ◌==◌, ◌++◌, ◌⊎◌, inl, inr, List, [], ◌∷◌, length, get_or, take, slice_get, Some, Bool, true, false, not, cond, refl, ap, arith, append_assoc, add-one, from_bool, AllByRecursion, Contains, cases_lt, cases_eq, nat_tests, gets, slice_get_within, slice_get-get_or, append-nil, take-append-le, length-append, length-take, take-length, take-append_seam, Contains-append_left, Contains-append_right, filter_more, Gate, Netlist, is_and, input_wires, EachRead, IsSetBefore, IsLawful, IsLocal, EachRead-map, solution_solves, with_gates, and_depth_of, and_depth_rule, AreAndDepths, and_depths, rank_of, rank_in, IsByDepth, IsReordering, of_rank, by_rank}
 use Rattle.gc_netlist.specs.declared.gate.Operation.{Operation}
 use Rattle.gc_depth.proofs.RankLemmas.{permuted, nondecreasing}
 use Rattle.gc_depth.proofs.ReorderLemmas.{contains_at, at_contains, contains_filter, none, reordered_lawful, solves_too}
@@ -16,8 +15,7 @@ pub depths_are : (c : Netlist) → IsLawful c → AreAndDepths c (and_depths c)
 depths_are c lawful = solution_solves and_depth_rule depth_local c lawful (λ _. 0)
 
 pub from_bool-le : (b : Bool) → from_bool b ≤ 1
-from_bool-le true = omega arith
-from_bool-le false = omega arith
+from_bool-le b = grind arith
 
 -- what is so of each wire, under two facts
 EachRead-both : (P Q R : ℕ → Type 0) (op : Operation) → ((w : ℕ) → P w → Q w → R w) →

@@ -1,5 +1,5 @@
 -- Ranks from a table of depths.
-use Rattle.gc_depth.proofs.Names.{◌≡◌, ℕ, ◌+◌, ◌*◌, ◌<◌, ◌≤◌, inl, inr, List, [], ◌∷◌, ◌++◌, zero, suc, max, length, map, set, take, replicate, get_or, slice_get, slice_index, Some, not, refl, sym, ap, ◌∙◌, arith, All, range_with_len, from_bool, cases_eq, nat_tests, get_or-set_same, get_or-set_other, length-replicate, map_more, All-nil, All-push, All-weaker, slice_get_within, get_or_from_slice_get, Gate, Netlist, is_and, IsSetBefore, IsLawful, values_after, EachRead-map, after-keeps, and_depth_of, and_depth_rule, and_depths, rank_in}
+use Rattle.gc_depth.proofs.Names.{common_steps, get_or-replicate, get_or_past, ◌≡◌, ℕ, ◌+◌, ◌*◌, ◌<◌, ◌≤◌, inl, inr, List, [], ◌∷◌, ◌++◌, max, length, map, set, take, replicate, get_or, slice_get, slice_index, Some, not, refl, sym, ap, ◌∙◌, arith, All, range_with_len, from_bool, cases_eq, nat_tests, get_or-set_same, get_or-set_other, length-replicate, map_more, All-nil, All-push, All-weaker, slice_get_within, get_or_from_slice_get, Gate, Netlist, is_and, IsSetBefore, IsLawful, values_after, EachRead-map, after-keeps, and_depth_of, and_depth_rule, and_depths, rank_in}
 use Rattle.std.specs.Ordering.{ord_max, nat_cmp}
 use Rattle.std.proofs.lemmas.List.FromFn.{fill_by_all}
 use Rattle.gc_netlist.specs.declared.gate.Operation.{Operation}
@@ -38,9 +38,7 @@ abbrev no_depth : ℕ
 no_depth = 0
 
 none_deep : (n w : ℕ) → get_or (replicate n no_depth) w 0 ≡ no_depth
-none_deep zero w = refl
-none_deep (suc n) zero = refl
-none_deep (suc n) (suc w) = none_deep n w
+none_deep n w = grind (arith, common_steps, get_or-replicate, get_or_past)
 
 -- the start: no wire is deep
 pub ranked_start : (c : Netlist) (n : ℕ) (table ranks : List ℕ) → n ≡ c.wires →
