@@ -26,11 +26,11 @@ unfolding rounds
 rounds_none h ws = refl
 
 -- one round more
-pub rounds-more : (h ws : List ℕ) (t : ℕ)
+pub rounds_more : (h ws : List ℕ) (t : ℕ)
     → rounds h ws (t + 1)
     ≡ round (rounds h ws t) (slice_index round_constants t) (slice_index ws t)
 unfolding rounds
-rounds-more h ws t = rw add-one refl
+rounds_more h ws t = rw add-one refl
 
 -- no block
 pub hash_after_none : (h p : List ℕ) → hash_after h p 0 ≡ h

@@ -85,6 +85,7 @@ fn schedules(words: &mut [u32x8; 64], rows: &mut Schedules, blocks: &[u8])
 }
 
 /// Round t of one block.
+#[tactic(auto, using(crate::proofs::Chains::rounds_more))]
 #[inline(always)]
 fn round_of(rows: &Schedules, block: usize, variables: [u32; 8], t: usize) -> [u32; 8]
     requires block { block < 8 }
@@ -162,6 +163,7 @@ pub(crate) fn compress_blocks(hash: &mut [u32; 8], blocks: &[u8], count: usize)
 }
 
 /// Compresses all of the blocks, whose number is a multiple of eight.
+#[tactic(auto, using(crate::proofs::Chains::hash_after_none))]
 pub(crate) fn compress_eights(hash: &mut [u32; 8], blocks: &[u8])
     requires { length blocks.now % 512 ≡ 0 }
     ensures { hash.new ≡ hash_after hash.old blocks.now (length blocks.now / 64) }

@@ -2,10 +2,6 @@ use Rattle.gc_lanes.proofs.Names.{◌≡◌, ◌+◌, ◌-◌, ◌*◌, ◌/◌,
 use Rattle.gc_lanes.proofs.Chains.{hash_after-joined}
 use Rattle.gc_lanes.proofs.chain.compress_eights.Goals as goal
 
-pub parts-init : goal.parts-init
-unfolding hash_after
-parts-init c = refl
-
 pub parts-preserved : goal.parts-preserved
 parts-preserved c =
     let p = c.args.blocks.now in
