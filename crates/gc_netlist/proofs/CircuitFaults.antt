@@ -173,7 +173,8 @@ module _ (ts : List (List ℕ)) where
           begun : (m : ℕ) → m ≤ count.0 →
               GatesRead count.0 (made []) m (gates_at wires.0 (sum inputs.0) m [] outputs.1)
           begun m within = gates_read count.0 m m (made []) outputs.1 (omega arith) within (
-            checked_begun count.0 (made []) (omega (arith, counted.1, sized.1, i, o)) (λ i g at. cc),
+            checked_begun count.0 (made []) (omega (arith, counted.1, sized.1, i, o))
+                (λ i g at. cc),
             same_words ts outputs.1 (front ++ []) front (append-nil front) o.0,
           )
 

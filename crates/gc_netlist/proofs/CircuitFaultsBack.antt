@@ -148,7 +148,8 @@ module _ (ts : List (List ℕ)) where
       let left : ℕ = suc (count - suc (length widths)) in
       rw (h1, numbers_back widths count left [] t1 us (omega arith) s2, bad) refl)
   no_number_back words (due_in_gate c before numbers due in_order) us e s bad =
-      stops _ _ _ _ _ (no_gate c before due) s (λ vs s1. number_stops numbers vs us e in_order s1 bad)
+      stops _ _ _ _ _ (no_gate c before due) s
+      (λ vs s1. number_stops numbers vs us e in_order s1 bad)
 
   -- Where a name is due.
   name_back : (r : ℕ) (words : List Word) → NameDue r words → (vs : List (List ℕ))
