@@ -13,7 +13,8 @@ at_contains xs x (i, within, is) = (i, slice_get_read xs (length xs) i x refl wi
 -- An item at a place is at some place where the items are in another order.
 moved : {X : Type 0} (xs ys : List X) → IsPermutation xs ys → (i : ℕ) (x : X) →
     slice_get xs i ≡ Some x → (j : ℕ) × (slice_get ys j ≡ Some x)
-moved xs ys same i x at = at_contains ys x (Contains-permutation xs ys x same (contains_at xs i x at))
+moved xs ys same i x at =
+    at_contains ys x (Contains-permutation xs ys x same (contains_at xs i x at))
 
 pub contains_filter : {X : Type 0} (p : X → Bool) (xs : List X) (x : X) → p x ≡ true →
     Contains xs x → Contains (filter p xs) x
@@ -73,7 +74,8 @@ module _ (c : Netlist) (lawful : IsLawful c) where
     set_too w (inl input) = inl input
     set_too w (inr (i, below, by)) =
         let (j, at) = moved c.gates gates permuted i by.gate by.at in
-        inr (j, slice_get_within gates j by.gate at, record { gate = by.gate; at = at; wire = by.wire })
+        let within = slice_get_within gates j by.gate at in
+        inr (j, within, record { gate = by.gate; at = at; wire = by.wire })
 
     -- If each gate reads only wires that are set before it, the circuit is lawful.
     pub reordered_lawful : ((i : ℕ) (g : Gate) → slice_get gates i ≡ Some g →

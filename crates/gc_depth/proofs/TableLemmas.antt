@@ -75,12 +75,14 @@ module _ (c : Netlist) (lawful : IsLawful c) (i : ℕ) (table ranks : List ℕ) 
 
     pub ranked_more : Ranked c (i + 1) (set table g.set d) (ranks ++ (2 * d + n) ∷ []) next
     ranked_more = record {
-      depths = table_step and_depth_rule depth_local c lawful (λ _. 0) table i g 0 d h.depths at deep;
+      depths = table_step and_depth_rule depth_local c lawful (λ _. 0) table i g 0 d h.depths at
+          deep;
       shallow = λ w. elim (cases_eq w g.set) [
         | inl same ↦ rw same (omega (arith, get_or-set_same table g.set d 0 set_inside, few_more))
         | inr other ↦ omega (arith, get_or-set_other table g.set w d 0 other, h.shallow w)
       ];
-      are = rw (h.are, rank_now) (sym (map_more (rank_in c) c.gates i g (slice_get_within c.gates i g at)
+      are = rw (h.are, rank_now) (sym (map_more (rank_in c) c.gates i g
+          (slice_get_within c.gates i g at)
           ∙ ap (λ x. map (rank_in c) (take i c.gates) ++ rank_in c x ∷ [])
           (get_or_from_slice_get c.gates i g g at)));
       below = All-push (λ k. k < next) ranks (2 * d + n) (All-weaker (λ k. k < end) (λ k. k < next)
