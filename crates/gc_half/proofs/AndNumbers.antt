@@ -1,11 +1,6 @@
 -- AND numbers, gate after gate.
-use Rattle.gc_half.proofs.Names.{◌≡◌, ℕ, suc, ◌+◌, ◌<◌, ◌≤◌, ◌⊎◌, inl, inr, true, false, cond, length, slice_get, Some, refl, length-take, arith, rules, take_all, gets, Operation, And, Gate, Netlist, is_and, and_number, and_count}
+use Rattle.gc_half.proofs.Names.{◌≡◌, ℕ, suc, ◌+◌, ◌<◌, ◌≤◌, true, false, cond, length, slice_get, Some, length-take, arith, take_all, gets, Gate, Netlist, is_and, and_number, and_count}
 use Rattle.std.proofs.lemmas.List.Sums.{count_by_more_yes, count_by_more_no, count_by-le-length, sum_by-take-le}
-
--- An operation is the AND of two wires, or is not AND.
-pub and_or_other : (op : Operation) → ((a : ℕ) × ((b : ℕ) × (op ≡ And a b))) ⊎ (is_and op ≡ false)
-and_or_other (And a b) = inl (a, (b, refl))
-and_or_other op = inr (search rules)
 
 module _ (c : Netlist) where
   pub and_number-and : (i : ℕ) (g : Gate) → slice_get c.gates i ≡ Some g

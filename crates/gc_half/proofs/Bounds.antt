@@ -1,11 +1,8 @@
 -- Hashes, zero labels, rows and active labels are 16 bytes long: as numbers they are below 2 ^ 128.
-use Rattle.gc_half.proofs.Names.{◌≡◌, ℕ, zero, suc, inl, inr, ◌^◌, ◌<◌, Bool, List, length, slice_get, Some, arith, nat_tests, slice_get_cases, Operation, Netlist, and_number, ◌⊕◌, times, offset_of, RowPair, zero_of, zero_rule, input_zero}
+use Rattle.gc_half.proofs.Names.{◌≡◌, ℕ, zero, suc, inl, inr, ◌^◌, ◌<◌, Bool, List, length, slice_get, Some, arith, nat_tests, Operation, Netlist, and_number, ◌⊕◌, times, offset_of, RowPair, zero_of, zero_rule, input_zero, values_after, label_of_bytes, hash, slice_get_cases}
 use Rattle.std.proofs.lemmas.Nat.{xor_lt}
 use Rattle.sha2.specs.Sha256.{sha256, digest_bytes}
-use Rattle.gc_netlist.specs.Solution.{values_after}
-use Rattle.gc_label.specs.Label.{label_of_bytes}
 use Rattle.gc_label.proofs.SeedLemmas.{offset_of-lt, input_label_of-lt}
-use Rattle.gc_half.specs.Hash.{hash}
 use Rattle.gc_half.specs.Canonical.{zero_label_of, row_pairs_of}
 use Rattle.gc_half.proofs.RowLemmas.{rows_after-each}
 
@@ -38,8 +35,7 @@ module _ (c : Netlist) (seed : List ℕ) where
     | inl (g, _, at, _) ↦
         let here = IsSmall-zero_of (offset_of seed) (offset_of-lt seed) _ (small-after n)
         (and_number c n) g.operation in
-        let before = small-after n w in
-        rw at (grind (arith, nat_tests))
+        rw at (grind (arith, nat_tests, small-after n w))
     | inr (_, none) ↦ rw none (small-after n w)
   ]
 

@@ -1,13 +1,8 @@
 -- The garbling of a circuit under a seed, as functions: it is one, and there is no other.
-use Rattle.gc_half.proofs.Names.{◌≡◌, ℕ, ◌<◌, inl, ⊎_elim, Bool, List, length, map, slice_get, slice_index, Some, refl, sym, ap, ◌∙◌, arith, nat_tests, And, Gate, Netlist, input_wires, output_wires, IsLawful, IsSet, and_number, and_count, Solves, solution_solves, colour, offset_of, input_label_of, RowPair, zero_of, zero_rule, rows_of, IsGarbling, GarblingParts, decode_bits_of, IsGarbled, input_zero, garbling_of}
-use Rattle.std.proofs.lemmas.List.FromFn.{fill_by_all, length-map-range_with_len}
-use Rattle.gc_circuit.specs.Meaning.{IsAssignment}
-use Rattle.gc_netlist.proofs.Tables.{read-table, table_end, IsSetBefore-below}
+use Rattle.gc_half.proofs.Names.{◌≡◌, ℕ, ◌<◌, inl, ⊎_elim, Bool, List, length, map, slice_get, slice_index, Some, refl, sym, ap, ◌∙◌, arith, nat_tests, Gate, Netlist, input_wires, output_wires, IsLawful, IsSet, and_number, and_count, Solves, solution_solves, colour, offset_of, input_label_of, RowPair, zero_of, zero_rule, IsGarbling, GarblingParts, decode_bits_of, IsGarbled, input_zero, garbling_of, fill_by_all, length-map-range_with_len, IsAssignment, read-table, table_end, IsSetBefore-below, hash, IsEvaluation, encode, decode_bits, Decodes}
 use Rattle.gc_label.proofs.SeedLemmas.{colour-offset_of}
-use Rattle.gc_half.specs.Hash.{hash}
-use Rattle.gc_half.specs.Evaluation.{IsEvaluation, encode, decode_bits}
 use Rattle.gc_half.specs.Canonical.{zero_label_of, row_pairs_of, active_label_of}
-use Rattle.gc_half.specs.Law.{HasOneGarbled, Decodes}
+use Rattle.gc_half.specs.Law.{HasOneGarbled}
 use Rattle.gc_half.proofs.CircuitLaw.{active_local, garbling-decodes}
 use Rattle.gc_half.proofs.NumberedLemmas.{IsGarbling-zero, zero-IsGarbling}
 use Rattle.gc_half.proofs.SetWires.{set_or_not, not_set_before}
@@ -21,18 +16,12 @@ parts-same g zero_labels rows outputs p q o = λ t.
     record { zero_labels = p t; rows = q t; outputs = o t }
 
 module _ (c : Netlist) (seed : List ℕ) where
-  pub input_zero-input : (w : ℕ) → w < input_wires c → input_zero c seed w ≡ input_label_of seed w
-  input_zero-input w input = grind (arith, nat_tests)
-
-  pub input_zero-other : (w : ℕ) → ¬ (w < input_wires c) → input_zero c seed w ≡ 0
-  input_zero-other w other = grind (arith, nat_tests)
-
   -- A wire that is not set has the zero label 0.
   pub zero_label_of-not_set : (w : ℕ) → ¬ IsSet c w → zero_label_of c seed w ≡ 0
   unfolding zero_label_of
   zero_label_of-not_set w unset =
-      not_set_before _ c _ w (length c.gates) unset
-      ∙ input_zero-other w (λ input. unset (inl input))
+      let other : ¬ (w < input_wires c) = λ input. unset (inl input) in
+      not_set_before _ c _ w (length c.gates) unset ∙ grind (arith, nat_tests)
 
   module _ (lawful : IsLawful c) where
     solves : Solves (zero_rule hash (offset_of seed) c) c (input_zero c seed) (zero_label_of c seed)
@@ -42,7 +31,7 @@ module _ (c : Netlist) (seed : List ℕ) where
     -- An input wire has its input label,
     pub zero_label_of-input : (w : ℕ) → w < input_wires c
         → zero_label_of c seed w ≡ input_label_of seed w
-    zero_label_of-input w input = solves.inputs w input ∙ input_zero-input w input
+    zero_label_of-input w input = solves.inputs w input ∙ grind (arith, nat_tests)
 
     -- and the wire that a gate sets has the label that the gate's equation says.
     pub zero_label_of-gate : (i : ℕ) (g : Gate) → slice_get c.gates i ≡ Some g
@@ -58,13 +47,7 @@ module _ (c : Netlist) (seed : List ℕ) where
         rows-garbling hash (offset_of seed) c lawful _ _
         (record { inputs = zero_label_of-input; gates = zero_label_of-gate })
 
-    -- An AND gate's row pair is at its AND number,
-    pub row_pairs_of-at : (i : ℕ) (g : Gate) (a b : ℕ) → slice_get c.gates i ≡ Some g
-        → g.operation ≡ And a b → slice_get (row_pairs_of c seed) (and_number c i)
-        ≡ Some (rows_of hash (offset_of seed) (zero_label_of c seed) (and_number c i) a b)
-    row_pairs_of-at = canonical-garbling.and_gates
-
-    -- and there are no others.
+    -- There is a row pair for each AND gate, and there are no others.
     pub length-row_pairs_of : length (row_pairs_of c seed) ≡ and_count c
     length-row_pairs_of = canonical-garbling.row_count
 

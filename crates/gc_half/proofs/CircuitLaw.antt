@@ -1,10 +1,6 @@
 -- The law of a garbled circuit: on each wire that is set the active label stands for the wire's bit, and the outputs
 -- decode to the bits of the output wires.
-use Rattle.gc_half.proofs.Names.{◌≡◌, ℕ, zero, suc, ◌+◌, ◌-◌, ◌<◌, ◌≤◌, Bool, true, List, map, refl, sym, arith, get_or_from_slice_get, Operation, And, Netlist, output_wires, IsLawful, and_number, IsLocal, agree, colour, RowPair, zero_of, rows_of, IsGarbling}
-use Rattle.std.specs.List.{range_with_len}
-use Rattle.gc_circuit.specs.Meaning.{bit_of, IsAssignment}
-use Rattle.gc_half.specs.Evaluation.{active_of, active_rule, IsEvaluation, encode, decode}
-use Rattle.gc_half.specs.Law.{Decodes}
+use Rattle.gc_half.proofs.Names.{◌≡◌, ℕ, zero, suc, ◌+◌, ◌-◌, ◌<◌, ◌≤◌, Bool, true, List, map, refl, sym, arith, get_or_from_slice_get, Operation, And, Netlist, output_wires, IsLawful, and_number, IsLocal, agree, colour, RowPair, zero_of, rows_of, IsGarbling, range_with_len, bit_of, IsAssignment, active_of, active_rule, IsEvaluation, encode, decode, Decodes, length, active_after, AreActiveFrom, solution, solution_solves, slice_index, hash, numbered_from, values_after}
 use Rattle.gc_half.proofs.OneGateLemmas.{first_read-local, second_read-local}
 use Rattle.gc_half.proofs.HalfGateLaw.{and_law, colour-encode, sums}
 
@@ -13,6 +9,24 @@ pub active_local : (hash : ℕ → ℕ → ℕ) (c : Netlist) (rows : List RowPa
     → IsLocal (active_rule hash c rows)
 active_local hash c rows u v i g h =
     rw (first_read-local u v g.operation h, second_read-local u v g.operation h) refl
+
+module _ (first : ℕ) (c : Netlist) (rows : List RowPair) (inputs labels : List ℕ) where
+  -- Before the first gate the labels are the given ones,
+  pub active-start : labels ≡ map (slice_index inputs) (range_with_len 0 c.wires)
+      → labels ≡ active_after first c rows inputs 0
+  unfolding values_after
+  active-start are = are
+
+  -- and after the last gate they are those of an evaluation.
+  pub active-end : IsLawful c → labels ≡ active_after first c rows inputs (length c.gates)
+      → AreActiveFrom first c rows inputs labels
+  active-end lawful are =
+      let h = numbered_from first hash in
+      record {
+        active = solution (active_rule h c rows) c (slice_index inputs);
+        evaluation = solution_solves _ (active_local h c rows) c lawful (slice_index inputs);
+        table = are;
+      }
 
 -- A decode bit and the colour of the label that stands for a bit give the bit, and so for wires in a row.
 decode-wires : (r : ℕ) → colour r ≡ true → (label active : ℕ → ℕ) (bits : ℕ → Bool)

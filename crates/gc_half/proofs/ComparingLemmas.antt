@@ -1,9 +1,8 @@
 -- Row pairs that are compared with given ones as they are made.
-use Rattle.gc_half.proofs.Names.{◌≡◌, ℕ, ◌+◌, ◌<◌, ◌++◌, List, [], ◌∷◌, length, take, drop, get_or, set, slice_get, Option, Some, MatchOption, refl, sym, ◌∙◌, arith, gets, Netlist, IsLawful, input_wires, input_label_of, RowPair, GarblingParts, IsGarbled}
+use Rattle.gc_half.proofs.Names.{◌≡◌, ℕ, ◌+◌, ◌<◌, ◌++◌, List, [], ◌∷◌, length, take, drop, get_or, set, slice_get, Option, Some, MatchOption, refl, sym, ◌∙◌, arith, gets, Netlist, IsLawful, input_wires, input_label_of, RowPair, GarblingParts, IsGarbled, common_steps, AreCompared}
 use Rattle.std.proofs.lemmas.List.{take_more_set, drop_all, drop_more, drop-drop, drop-set-lt, get_or-drop, length-take-le}
-use Rattle.std.proofs.lemmas.Grind.{common_steps}
 use Rattle.gc_half.specs.declared.garbling.Mismatch.{Mismatch}
-use Rattle.gc_half.specs.Comparing.{IsFirstMismatch, IsComparison, HasLabels, AreCompared, IsNextMismatch}
+use Rattle.gc_half.specs.Comparing.{IsFirstMismatch, IsComparison, HasLabels, IsNextMismatch}
 use Rattle.gc_half.proofs.CanonicalLemmas.{garbling_of-IsGarbled, IsGarbled-same}
 
 module _ (given : List RowPair) where

@@ -1,7 +1,7 @@
 -- A table that is filled in part.
-use Rattle.std.proofs.Common.{◌≡◌, ℕ, ◌+◌, ◌-◌, ◌<◌, ◌≤◌, List, ◌++◌, length, set, replicate, sym, ap, ◌∙◌, arith}
-use Rattle.std.proofs.Math.ListN.{length-append, length-replicate}
-use Rattle.std.proofs.lemmas.List.{replicate-append-replicate, append_assoc, set-append_left}
+use Rattle.gc_half.proofs.Names.{◌≡◌, ℕ, ◌+◌, ◌-◌, ◌<◌, ◌≤◌, List, ◌++◌, length, set, replicate, sym, ap, ◌∙◌, arith, length-append, append_assoc}
+use Rattle.std.proofs.Math.ListN.{length-replicate}
+use Rattle.std.proofs.lemmas.List.{replicate-append-replicate, set-append_left}
 
 module _ {T : Type 0} (xs : List T) (u : T) where
   -- filling it further changes no entry

@@ -1,32 +1,33 @@
 -- Evaluating in file order, where no gate waits.
-use Rattle.gc_half.proofs.Names.{◌≡◌, ℕ, ◌+◌, ◌<◌, ◌∙◌, List, length, map, slice_get, slice_index, Some, refl, arith, Gate, Netlist, IsLawful, EachRead-map, and_number, and_count, solution_solves, RowPair}
-use Rattle.std.specs.List.{range_with_len, slice_set}
-use Rattle.gc_netlist.specs.Solution.{values_after, solution}
-use Rattle.gc_netlist.proofs.Tables.{table_step, length-table, EachRead-below, after-zero}
-use Rattle.gc_half.specs.Evaluation.{active_rule, active_of, row_at, AreActiveFrom}
-use Rattle.gc_half.specs.SideBySide.{CanStep, IsStep}
+use Rattle.gc_half.proofs.Names.{◌≡◌, ℕ, ◌+◌, ◌<◌, ◌∙◌, List, length, map, slice_get, slice_index, Some, refl, arith, Gate, Netlist, IsLawful, EachRead-map, and_number, and_count, RowPair, range_with_len, table_step, length-table, EachRead-below, active_rule, active_of, row_at, AreActiveFrom, CanStep, IsStep, hash, numbered_from, active_after}
+use Rattle.std.specs.List.{slice_set}
 use Rattle.gc_half.proofs.AndNumbers.{and_number-below}
-use Rattle.gc_half.specs.Hash.{hash, numbered_from}
-use Rattle.gc_half.proofs.CircuitLaw.{active_local}
+use Rattle.gc_half.proofs.CircuitLaw.{active_local, active-start, active-end}
 
 -- The lane's rows are the ones that were given, and its labels are those after the first n gates.
-pub record IsLane (h : ℕ → ℕ → ℕ) (c : Netlist) (rows : List RowPair) (inputs : List ℕ) (n : ℕ)
+pub record IsLane (first : ℕ) (c : Netlist) (rows : List RowPair) (inputs : List ℕ) (n : ℕ)
     (lane_rows : List RowPair) (labels : List ℕ) : Type 0 where
   pub rows_are : lane_rows ≡ rows
-  pub followed : labels ≡ map (values_after (active_rule h c rows) c (slice_index inputs) n)
-      (range_with_len 0 c.wires)
+  pub followed : labels ≡ active_after first c rows inputs n
 
-pub lane-start : {h : ℕ → ℕ → ℕ} {c : Netlist} {rows lane_rows : List RowPair}
+pub lane-start : {first : ℕ} {c : Netlist} {rows lane_rows : List RowPair}
     {inputs labels : List ℕ}
     → lane_rows ≡ rows → labels ≡ map (slice_index inputs) (range_with_len 0 c.wires)
-    → IsLane h c rows inputs 0 lane_rows labels
-lane-start {h = h} {c = c} {rows = rows} {inputs = inputs} rows_are are = record {
+    → IsLane first c rows inputs 0 lane_rows labels
+lane-start rows_are are = record {
   rows_are = rows_are;
-  followed = are ∙ rw (after-zero (active_rule h c rows) c (slice_index inputs)) refl;
+  followed = active-start _ _ _ _ _ are;
 }
 
-module _ {h : ℕ → ℕ → ℕ} {c : Netlist} {rows lane_rows : List RowPair} {inputs labels : List ℕ}
-    {n : ℕ} (lawful : IsLawful c) (is : IsLane h c rows inputs n lane_rows labels) where
+module _ {first : ℕ} {c : Netlist} {rows lane_rows : List RowPair} {inputs labels : List ℕ}
+    {n : ℕ} (lawful : IsLawful c) (is : IsLane first c rows inputs n lane_rows labels) where
+  abbrev h : ℕ → ℕ → ℕ
+  h = numbered_from first hash
+
+  pub lane-end : {all : List ℕ} → n ≡ length c.gates → all ≡ labels
+      → AreActiveFrom first c rows inputs all
+  lane-end end are = active-end first c rows inputs _ lawful (are ∙ rw end at is.followed)
+
   module _ {g : Gate} (at : slice_get c.gates n ≡ Some g) {k : ℕ} (numbered : k ≡ and_number c n)
     where
       pub can-step : length rows ≡ and_count c → CanStep k g lane_rows labels
@@ -43,7 +44,7 @@ module _ {h : ℕ → ℕ → ℕ} {c : Netlist} {rows lane_rows : List RowPair}
 
       pub lane-next : {new_rows : List RowPair} {new : List ℕ}
           → IsStep h k g lane_rows labels new_rows new
-          → IsLane h c rows inputs (n + 1) new_rows new
+          → IsLane first c rows inputs (n + 1) new_rows new
       lane-next step =
           let put : _ ≡ slice_set labels g.set (active_of h (slice_index labels) (and_number c n)
           (row_at rows (and_number c n)) g.operation) =
@@ -53,16 +54,3 @@ module _ {h : ℕ → ℕ → ℕ} {c : Netlist} {rows lane_rows : List RowPair}
             followed = put ∙ table_step (active_rule h c rows) (active_local h c rows) c lawful
                 (slice_index inputs) labels n g 0 _ is.followed at refl;
           }
-
-pub lane-end : (first : ℕ) {c : Netlist} {rows lane_rows : List RowPair} {inputs labels all : List ℕ}
-    {n : ℕ}
-    → IsLawful c → IsLane (numbered_from first hash) c rows inputs n lane_rows labels
-    → n ≡ length c.gates → all ≡ labels → AreActiveFrom first c rows inputs all
-lane-end first {c = c} {rows = rows} {inputs = inputs} lawful is end are =
-    let rule = active_rule (numbered_from first hash) c rows in
-    record {
-      active = solution rule c (slice_index inputs);
-      evaluation = solution_solves rule (active_local (numbered_from first hash) c rows) c lawful
-          (slice_index inputs);
-      table = are ∙ rw end at is.followed;
-    }

@@ -1,19 +1,11 @@
 -- Garbling in file order: the table of zero labels and the row pairs, gate after gate.
-use Rattle.gc_half.proofs.Names.{◌≡◌, ℕ, ap, input_label_of, input_zero, add-one, if◌then◌else◌, ◌==◌, ◌+◌, ◌-◌, ◌<◌, ◌≤◌, ◌++◌, inl, inr, ⊎_elim, List, [], length, map, set, get_or-set_same, get_or-set_other, replicate, slice_get, slice_index, Some, take, refl, sym, ◌∙◌, subst, arith, nat_tests, slice_get_within, Gate, Netlist, input_wires, output_wires, IsLawful, IsSet, IsSetBy, IsSetBefore, EachRead, and_number, put, EachRead-map, after-keeps, solution_solves, RowPair, first_read, second_read, gate_rows, zero_of, IsGarbling, rows_after, with_row_pair}
-use Rattle.std.specs.List.{range_with_len}
-use Rattle.std.proofs.lemmas.Bool.{cases_lt}
-use Rattle.std.proofs.lemmas.List.{get_or_past, take_all}
-use Rattle.gc_netlist.specs.Solution.{values_after}
-use Rattle.gc_netlist.proofs.Tables.{read-table, length-table, table_padded, IsSetBefore-below}
-use Rattle.gc_half.specs.Garbling.{IsGarbledFrom}
-use Rattle.gc_half.specs.FirstGates.{AreGarbled, labels_after, label_of}
-use Rattle.gc_half.specs.Hash.{hash, numbered_from}
-use Rattle.gc_half.specs.SideBySide.{IsOneGateMore}
+use Rattle.gc_half.proofs.Names.{◌≡◌, ℕ, input_label_of, input_zero, add-one, if◌then◌else◌, ◌==◌, ◌+◌, ◌-◌, ◌<◌, ◌≤◌, ◌++◌, inl, ⊎_elim, List, [], length, map, set, get_or-set_same, get_or-set_other, replicate, slice_get, slice_index, Some, take, refl, sym, ◌∙◌, arith, nat_tests, slice_get_within, Gate, Netlist, input_wires, output_wires, IsLawful, IsSet, IsSetBy, IsSetBefore, EachRead, and_number, put, EachRead-map, after-keeps, solution_solves, RowPair, first_read, second_read, gate_rows, zero_of, IsGarbling, rows_after, with_row_pair, range_with_len, cases_lt, get_or_past, take_all, values_after, read-table, length-table, table_padded, IsSetBefore-below, IsGarbledFrom, AreGarbled, label_of, hash, numbered_from, IsOneGateMore, common_steps}
 use Rattle.gc_half.proofs.AndNumbers.{and_number-le}
 use Rattle.gc_half.proofs.OneGateLemmas.{first_read-local, second_read-local}
 use Rattle.gc_half.proofs.GarblingLemmas.{zero_local, IsGarbling-same, rows-garbling}
-use Rattle.gc_half.proofs.RowLemmas.{rows_after-start, rows_after-next, length-rows_after}
+use Rattle.gc_half.proofs.RowLemmas.{rows_after-start, rows_after-next, length-rows_after, rows}
 use Rattle.gc_half.proofs.SetWires.{last_or_before, not_set_before}
+use Rattle.std.proofs.lemmas.List.{get_or-replicate}
 
 -- A label that is set in a table is put over what the wires have.
 pub set-put : (labels : List ℕ) (values : ℕ → ℕ) (s x y : ℕ) → s < length labels
@@ -24,28 +16,17 @@ set-put labels values s x y within same is w =
 
 -- The hash may be any.
 module _ (h : ℕ → ℕ → ℕ) (r : ℕ) (c : Netlist) (given : List ℕ) where
-  -- There are no more row pairs than gates.
-  pub few_rows : (n : ℕ) (labels : List ℕ) (rows : List RowPair)
-      → AreGarbled h r c given n labels rows
-      → length rows ≤ n
-  few_rows n labels rows are =
-      let count = length-rows_after h r c (label_of h r c given) n in
-      rw are.row_pairs (omega (arith, and_number-le c n))
-
-  -- There are as many row pairs as AND gates among the gates.
+  -- There are as many row pairs as AND gates among the gates,
   pub count_rows : (n : ℕ) (labels : List ℕ) (rows : List RowPair)
       → AreGarbled h r c given n labels rows
       → length rows ≡ and_number c n
   count_rows n labels rows are = rw are.row_pairs (length-rows_after h r c (label_of h r c given) n)
 
-  -- Such a table that is lengthened by zeros has a label for each wire.
-  pub labels-padded : (n : ℕ) (labels table : List ℕ) (rows : List RowPair) (count wires : ℕ)
-      → AreGarbled h r c given n labels rows → count ≡ length labels → wires ≡ c.wires
-      → table ≡ take wires labels ++ replicate (wires - count) 0
-      → table ≡ map (labels_after h r c given n) (range_with_len 0 c.wires)
-  labels-padded n labels table rows count wires are count_is wires_is made =
-      rw (made, wires_is, count_is, take_all c.wires labels are.few)
-      (simp are.right at (table_padded labels c.wires 0 are.few))
+  -- and no more than gates.
+  pub few_rows : (n : ℕ) (labels : List ℕ) (rows : List RowPair)
+      → AreGarbled h r c given n labels rows
+      → length rows ≤ n
+  few_rows n labels rows are = omega (arith, count_rows n labels rows are, and_number-le c n)
 
   -- At the start the labels are the given ones: those of the input wires, at least.
   pub garbled-start : input_wires c ≤ length given → length given ≤ c.wires
@@ -101,15 +82,14 @@ module _ (h : ℕ → ℕ → ℕ) (r : ℕ) (c : Netlist) (given : List ℕ) wh
             (omega (arith, slice_get_within c.gates i g at)) set)) (lawful.reads i g at)
 
     -- The same, of a step of garblings side by side.
-    pub garbled-step : (i : ℕ) (g : Gate) → slice_get c.gates i ≡ Some g
-        → (labels new : List ℕ) (rows new_rows : List RowPair) (o wires : ℕ)
+    pub garbled-step : {i : ℕ} {g : Gate} → slice_get c.gates i ≡ Some g
+        → {labels new : List ℕ} {rows new_rows : List RowPair} {o wires : ℕ}
         → AreGarbled h r c given i labels rows → o ≡ r → wires ≡ c.wires
         → IsOneGateMore h o wires g labels rows new new_rows
         → AreGarbled h r c given (i + 1) new new_rows
-    garbled-step i g at labels new rows new_rows o wires are same wires_is more =
-        let more = subst (λ (x : ℕ). IsOneGateMore h x wires g labels rows new new_rows) same
-        more in
-        garbled-next i g at labels new rows new_rows are more.label more.there more.kept
+    garbled-step at are same wires_is more =
+        let more = rw same at more in
+        garbled-next _ _ at _ _ _ _ are more.label more.there more.kept
         (omega (arith, more.few, wires_is)) more.row_pairs
 
     -- The labels on the wires and their rows are a garbling.
@@ -132,61 +112,45 @@ module _ (h : ℕ → ℕ → ℕ) (r : ℕ) (c : Netlist) (given : List ℕ) wh
 -- After the last gate a table of all wires and the row pairs are the garbling.
 pub garbled-whole : (first r : ℕ) (c : Netlist) (given : List ℕ) → IsLawful c
     → ((w : ℕ) → input_wires c ≤ w → slice_index given w ≡ 0)
-    → (labels : List ℕ) (rows : List RowPair) (outputs : ℕ) → length labels ≡ c.wires
+    → (labels : List ℕ) (rows : List RowPair) → length labels ≡ c.wires
     → AreGarbled (numbered_from first hash) r c given (length c.gates) labels rows
-    → outputs ≡ output_wires c
     → IsGarbledFrom r (slice_index given) first c
-    (record { zero_labels = labels; rows = rows; outputs = outputs })
+    (record { zero_labels = labels; rows = rows; outputs = output_wires c })
 unfolding label_of
-garbled-whole first r c given lawful others labels rows outputs long are outputs_are =
+garbled-whole first r c given lawful others labels rows long are =
     let h = numbered_from first hash in
     record {
-      garbling = rw are.row_pairs (IsGarbling-same h r c lawful (slice_index given)
-          (label_of h r c given) (slice_index labels) _ (λ w set. sym (are.right w))
+      garbling = rw are.row_pairs (IsGarbling-same h r c lawful _ _ _ _ (λ w set. sym (are.right w))
           (labels-garbling h r c given lawful));
       wires = long;
       not_set = λ w below unset.
           are.right w ∙ label_of-not_set h r c given lawful others w unset;
-      outputs = outputs_are;
+      outputs = refl;
     }
 
 -- The same of a table that is lengthened by zeros.
 pub garbled-end : (first r : ℕ) (c : Netlist) (given : List ℕ) → IsLawful c
-    → length given ≡ input_wires c → (labels table : List ℕ) (count wires outputs : ℕ)
-    (rows : List RowPair)
+    → length given ≡ input_wires c → (labels : List ℕ) (rows : List RowPair)
     → AreGarbled (numbered_from first hash) r c given (length c.gates) labels rows
-    → count ≡ length labels → wires ≡ c.wires
-    → table ≡ take wires labels ++ replicate (wires - count) 0 → outputs ≡ output_wires c
-    → IsGarbledFrom r (slice_index given) first c
-    (record { zero_labels = table; rows = rows; outputs = outputs })
-garbled-end first r c given lawful long labels table count wires outputs rows are count_is wires_is
-    made outputs_are =
+    → IsGarbledFrom r (slice_index given) first c (record {
+      zero_labels = take c.wires labels ++ replicate (c.wires - length labels) 0;
+      rows = rows;
+      outputs = output_wires c;
+    })
+garbled-end first r c given lawful long labels rows are =
+    let few = are.few in
+    let table : List ℕ = take c.wires labels ++ replicate (c.wires - length labels) 0 in
+    let many : length table ≡ c.wires = grind (arith, common_steps) in
+    let same : (w : ℕ) → slice_index table w ≡ slice_index labels w =
+    λ w. grind (arith, common_steps, take_all, get_or_past, get_or-replicate) in
     garbled-whole first r c given lawful
-    (λ w past. get_or_past given w 0 (omega (arith, long, past))) table rows outputs many
+    (λ w past. get_or_past given w 0 (omega (arith, long, past))) table rows many
     (record {
       few = omega (arith, many);
       there = λ w set. omega (arith, many, IsSetBefore-below c lawful (length c.gates) w set);
-      right = right;
+      right = λ w. same w ∙ are.right w;
       row_pairs = are.row_pairs;
     })
-    outputs_are
-  where
-    h : ℕ → ℕ → ℕ
-    h = numbered_from first hash
-
-    padded : table ≡ map (labels_after h r c given (length c.gates)) (range_with_len 0 c.wires)
-    padded = labels-padded h r c given _ labels table rows count wires are count_is wires_is made
-
-    many : length table ≡ c.wires
-    many = length-table _ c.wires table padded
-
-    right : (w : ℕ) → slice_index table w ≡ labels_after h r c given (length c.gates) w
-    right w = elim (cases_lt w c.wires) [
-      | inl inside ↦ rw padded (read-table _ c.wires w 0 inside)
-      | inr past ↦
-          get_or_past table w 0 (omega (arith, many, past))
-          ∙ sym (get_or_past labels w 0 (omega (arith, are.few, past))) ∙ are.right w
-    ]
 
 -- The zero labels of the input wires under a seed, lengthened by zeros.
 pub inputs-padded : (c : Netlist) → IsLawful c → (seed labels table : List ℕ) (count wires : ℕ)
@@ -194,15 +158,10 @@ pub inputs-padded : (c : Netlist) → IsLawful c → (seed labels table : List �
     → count ≡ length labels → wires ≡ c.wires
     → table ≡ take wires labels ++ replicate (wires - count) 0
     → table ≡ map (input_zero c seed) (range_with_len 0 c.wires)
-unfolding values_after
 inputs-padded c lawful seed labels table count wires labels_are count_is wires_is made =
     let long = length-table (input_label_of seed) (input_wires c) labels labels_are in
-    labels-padded hash 0 c labels 0 labels table [] count wires
-    (garbled-start hash 0 c labels (omega (arith, long)) (omega (arith, long, lawful.inputs_fit)))
-    count_is wires_is made
-    ∙ ap (λ f. map f (range_with_len 0 c.wires)) (λ t w. same w t)
-  where
-    same : (w : ℕ) → slice_index labels w ≡ input_zero c seed w
-    same w =
-        let long = length-table (input_label_of seed) (input_wires c) labels labels_are in
-        grind (arith, nat_tests, get_or_past, read-table)
+    let few : length labels ≤ c.wires = omega (arith, lawful.inputs_fit) in
+    let same : (w : ℕ) → slice_index labels w ≡ input_zero c seed w =
+    λ w. grind (arith, nat_tests, get_or_past, read-table) in
+    rw (made, wires_is, count_is, take_all c.wires labels few)
+    (simp same at (table_padded labels c.wires 0 few))

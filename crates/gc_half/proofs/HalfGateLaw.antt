@@ -1,11 +1,9 @@
 -- The law of one AND gate: its rows take active labels of two bits to the active label of their conjunction.
-use Rattle.gc_half.proofs.Names.{◌≡◌, ℕ, ◌+◌, ◌*◌, Bool, true, cond, not, ◌&&◌, ◌∙◌, arith, nat_tests, ◌⊕◌, colour, times}
+use Rattle.gc_half.proofs.Names.{◌≡◌, ℕ, Bool, true, cond, not, ◌&&◌, arith, nat_tests, ◌⊕◌, colour, times, xor, encode, hash}
 use Rattle.std.specs.Int.{bit_at}
 use Rattle.std.proofs.lemmas.Nat.Bits.{bit_at_xor, same_from_bits}
 use lib.Bits.{xor_assoc, xor_comm, xor_self, xor_zero_l, xor_zero_r}
-use Rattle.gc_circuit.specs.Meaning.{xor}
 use Rattle.gc_half.specs.HalfGate.{and_zero, and_active, generator_row, evaluator_row}
-use Rattle.gc_half.specs.Evaluation.{encode}
 
 -- the laws of sums of labels
 pub ruleset sums = (arith, xor_assoc, xor_comm, xor_self, xor_zero_l, xor_zero_r)

@@ -1,9 +1,7 @@
 -- The tweaked hash of a label is its hash.
-use Rattle.std.proofs.Common.{◌≡◌, ℕ, List, [], ◌∷◌, ap, ◌∙◌, arith, length, map, slice_index_or}
-use Rattle.std.proofs.lemmas.Grind.{common_steps}
-use Rattle.gc_label.specs.Label.{label_of_bytes, bytes_of_label}
+use Rattle.gc_half.proofs.Names.{◌≡◌, ℕ, List, [], ◌∷◌, ap, ◌∙◌, arith, length, map, slice_index_or, common_steps, label_of_bytes, bytes_of_label, hash}
 use Rattle.gc_lanes.specs.Hash.{tweaked_hash}
-use Rattle.gc_half.specs.Hash.{hash, tweak_bytes}
+use Rattle.gc_half.specs.Hash.{tweak_bytes}
 
 -- It may be made as a number, from the label's number.
 pub hash-is : (label tweak : ℕ) {number hashed made : ℕ} → made ≡ hashed

@@ -1,9 +1,5 @@
 -- The laws of circuits that follow one another, from the law of one circuit.
-use Rattle.gc_half.proofs.Names.{◌≡◌, ℕ, ◌+◌, ◌-◌, ◌<◌, Bool, List, Option, Some, refl, ◌∙◌, arith, Netlist, input_wires, output_wires, IsLawful, RowPair}
-use Rattle.std.proofs.Common.{None}
-use Rattle.gc_half.specs.Evaluation.{IsEvaluation, encode}
-use Rattle.gc_half.specs.Law.{Decodes}
-use Rattle.gc_half.specs.Hash.{numbered_from}
+use Rattle.gc_half.proofs.Names.{◌≡◌, ℕ, ◌+◌, ◌-◌, ◌<◌, Bool, List, Option, Some, refl, ◌∙◌, arith, Netlist, input_wires, output_wires, IsLawful, RowPair, None, IsEvaluation, encode, Decodes, numbered_from, hash}
 use Rattle.gc_half.specs.Joined.{of_output, taken, FollowingLaw, JoinedLaw}
 use Rattle.gc_half.proofs.CircuitLaw.{garbling-decodes}
 
@@ -53,8 +49,6 @@ joined-decodes hash r odd before lawful_before first_before given zero_before ro
     given zero_before rows_before garbling_before input_bits bits_before assignment_before
     active_before evaluation_before in (
       decodes,
-      following-decodes hash r odd before lawful_before zero_before active_before bits_before
-          decodes c lawful joint is_joint first own zero_label rows garbling own_bits bits
-          assignment active
-          evaluation,
+      following-decodes hash r odd before lawful_before _ _ _ decodes c lawful joint is_joint first
+          own zero_label rows garbling own_bits bits assignment active evaluation,
     )

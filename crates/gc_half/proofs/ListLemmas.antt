@@ -1,17 +1,10 @@
 -- Lists with one place set, counts, and tables over the numbers below n.
-use Rattle.std.proofs.Common.{inl, inr, ◌≡◌, ◌≢◌, ℕ, zero, suc, ◌+◌, ◌<◌, List, [], ◌∷◌, ◌++◌, take, length, length-set, map, set, slice_get, Some, Bool, true, false, cond, count_by, replicate, refl, arith}
-use Rattle.std.specs.List.{range_with_len, position_or_len}
-use Rattle.std.proofs.lemmas.Bool.{cases_eq, cases_lt}
-use Rattle.std.proofs.lemmas.Grind.{common_steps}
+use Rattle.gc_half.proofs.Names.{inl, inr, ◌≡◌, ◌≢◌, ℕ, zero, suc, ◌+◌, ◌<◌, List, [], ◌∷◌, length, length-set, map, set, slice_get, Some, Bool, true, false, cond, replicate, refl, arith, range_with_len, cases_eq, cases_lt, common_steps, length-map-range_with_len, get_or-map-range_with_len, slice_get_within, get_or_from_slice_get, gets}
+use Rattle.std.proofs.Common.{count_by}
+use Rattle.std.specs.List.{position_or_len}
 use Rattle.std.proofs.lemmas.List.{get_or-replicate}
-use Rattle.std.proofs.lemmas.List.FromFn.{length-map-range_with_len, get_or-map-range_with_len}
 use Rattle.std.proofs.lemmas.List.Sums.{sum_by-set, sum_by-cons, sum_by-le, get_or-le-sum_by, count_by-le-length, fails_before_first}
 use Rattle.std.proofs.lemmas.List.Folds.{sum_by-replicate}
-use Rattle.std.proofs.lemmas.Option.{slice_get_within, get_or_from_slice_get, gets}
-
--- the front of a list
-pub take-front : {X : Type 0} (n : ℕ) (xs ys : List X) → length xs ≡ n → take n (xs ++ ys) ≡ xs
-take-front n xs ys long = grind (arith, common_steps)
 
 -- ---- one place set
 

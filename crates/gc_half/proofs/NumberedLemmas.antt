@@ -1,12 +1,7 @@
 -- Where AND gates are numbered from 0 on, the hash is the hash itself. `rw` does not see it below `numbered_from`,
 -- which computes where it is applied: so each notion that is taken at a hash has a lemma of its own.
-use Rattle.gc_half.proofs.Names.{◌≡◌, ℕ, ◌+◌, ◌*◌, ◌<◌, List, map, slice_index, offset_of, input_label_of, IsGarbled, sym, ap, subst, ◌∙◌, arith, Netlist, input_wires, RowPair, IsGarbling}
-use Rattle.std.specs.List.{range_with_len}
-use Rattle.gc_netlist.proofs.Tables.{read-table}
+use Rattle.gc_half.proofs.Names.{◌≡◌, ℕ, ◌+◌, ◌*◌, ◌<◌, List, map, slice_index, offset_of, input_label_of, IsGarbled, sym, ap, subst, ◌∙◌, arith, Netlist, input_wires, RowPair, IsGarbling, range_with_len, read-table, IsEvaluation, GarblingParts, IsGarbledFrom, numbered_from}
 use Rattle.gc_half.specs.HalfGate.{and_garbled}
-use Rattle.gc_half.specs.Evaluation.{IsEvaluation}
-use Rattle.gc_half.specs.Garbling.{GarblingParts, IsGarbledFrom}
-use Rattle.gc_half.specs.Hash.{numbered_from}
 
 from-number : (n : ℕ) → 2 * 0 + n ≡ n
 from-number n = omega arith
@@ -19,15 +14,14 @@ module _ (h : ℕ → ℕ → ℕ) where
       → and_garbled (numbered_from 0 h) k r a b ≡ and_garbled h k r a b
   and_garbled-zero k r a b = ap (λ f. and_garbled f k r a b) (from-zero h)
 
-  pub IsGarbling-zero : (r : ℕ) (c : Netlist) (given label : ℕ → ℕ) (rows : List RowPair)
-      → IsGarbling (numbered_from 0 h) r c given label rows → IsGarbling h r c given label rows
-  IsGarbling-zero r c given label rows garbling =
-      subst (λ f. IsGarbling f r c given label rows) (from-zero h) garbling
+  module _ (r : ℕ) (c : Netlist) (given label : ℕ → ℕ) (rows : List RowPair) where
+    pub IsGarbling-zero : IsGarbling (numbered_from 0 h) r c given label rows
+        → IsGarbling h r c given label rows
+    IsGarbling-zero = subst (λ f. IsGarbling f r c given label rows) (from-zero h)
 
-  pub zero-IsGarbling : (r : ℕ) (c : Netlist) (given label : ℕ → ℕ) (rows : List RowPair)
-      → IsGarbling h r c given label rows → IsGarbling (numbered_from 0 h) r c given label rows
-  zero-IsGarbling r c given label rows garbling =
-      subst (λ f. IsGarbling f r c given label rows) (sym (from-zero h)) garbling
+    pub zero-IsGarbling : IsGarbling h r c given label rows
+        → IsGarbling (numbered_from 0 h) r c given label rows
+    zero-IsGarbling = subst (λ f. IsGarbling f r c given label rows) (sym (from-zero h))
 
   pub IsEvaluation-zero : (c : Netlist) (rows : List RowPair) (given active : ℕ → ℕ)
       → IsEvaluation (numbered_from 0 h) c rows given active → IsEvaluation h c rows given active

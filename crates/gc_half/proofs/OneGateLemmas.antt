@@ -1,6 +1,5 @@
 -- The labels that an operation reads look at the wires that it reads alone, and gates other than AND at no number.
-use Rattle.gc_half.proofs.Names.{◌≡◌, ℕ, List, rules, Operation, And, is_and, false, EachRead, RowPair, first_read, second_read, gate_zero, gate_rows, with_row_pair}
-use Rattle.gc_half.specs.Hash.{hash}
+use Rattle.gc_half.proofs.Names.{◌≡◌, ℕ, List, rules, Operation, And, is_and, false, EachRead, RowPair, first_read, second_read, gate_zero, gate_rows, with_row_pair, hash}
 
 pub first_read-local : (u v : ℕ → ℕ) (op : Operation) → EachRead (λ w. u w ≡ v w) op
     → first_read u op ≡ first_read v op

@@ -1,20 +1,9 @@
 -- Garbling and evaluating the gates of a piece: its AND gates are numbered after those before it.
-use Rattle.gc_half.proofs.Names.{◌≡◌, ℕ, zero, suc, ◌+◌, ◌-◌, ◌*◌, ◌<◌, ◌≤◌, ◌++◌, ◌==◌, if◌then◌else◌, inl, inr, true, false, Bool, List, cond, length, map, set, slice_get, slice_index, Option, Some, refl, sym, ap, ◌∙◌, arith, add-one, take_all, slice_get_cases, slice_get_within, Operation, And, Gate, Netlist, IsLawful, is_and, and_number, and_count, IsSetBefore-more, RowPair, zero_of, gate_rows, gate_zero, with_row_pair, first_read, second_read}
-use Rattle.std.specs.List.{range_with_len}
-use Rattle.std.specs.Prelude.{None}
-use Rattle.std.proofs.Common.{length-append, length-set}
-use Rattle.std.proofs.lemmas.Grind.{common_steps}
-use Rattle.std.proofs.lemmas.List.{get_or_append_left, get_or-append_right}
-use Rattle.std.proofs.lemmas.List.Sums.{sum_by-take-le}
-use Rattle.gc_netlist.specs.Solution.{values_after}
-use Rattle.gc_netlist.specs.declared.gate.Operation.TheVariants.{Xor, Inv, Eq, Eqw}
-use Rattle.gc_half.specs.Evaluation.{active_of, active_rule, row_at}
-use Rattle.gc_half.specs.FirstGates.{AreGarbled}
-use Rattle.gc_half.specs.Hash.{hash, numbered_from}
-use Rattle.gc_half.specs.Waiting.{ZeroTableParts, NoneSets}
-use Rattle.gc_half.specs.Pieces.{IsPieceAfter, EndsPiece}
-use Rattle.gc_half.proofs.AndNumbers.{and_number-and, and_number-below, and_number-end, and_number-other}
+use Rattle.gc_half.proofs.Names.{◌≡◌, ℕ, zero, suc, ◌+◌, ◌-◌, ◌*◌, ◌<◌, ◌≤◌, ◌++◌, inl, inr, true, List, cond, length, map, set, slice_get, slice_index, Option, Some, refl, ap, ◌∙◌, arith, take_all, slice_get_cases, slice_get_within, Operation, Gate, Netlist, IsLawful, is_and, and_number, and_count, RowPair, zero_of, gate_rows, gate_zero, with_row_pair, first_read, second_read, range_with_len, length-append, length-set, common_steps, get_or_append_left, get_or-append_right, values_after, active_of, active_rule, row_at, AreGarbled, hash, numbered_from, ZeroTableParts, NoneSets, IsPieceAfter, EndsPiece, get_or_from_slice_get, add-one, if◌then◌else◌, ◌==◌}
+use Rattle.std.proofs.lemmas.List.Sums.{sum_by-take-le, sum_by_more}
+use Rattle.gc_half.proofs.AndNumbers.{and_number-and, and_number-below}
 use Rattle.gc_half.proofs.GarbleLemmas.{garbled-next, count_rows, set-put}
+use Rattle.gc_half.proofs.SetWires.{not_set_yet}
 
 module _ (c : Netlist) where
   -- There are no more AND gates before a gate than there are.
@@ -22,52 +11,32 @@ module _ (c : Netlist) where
   and_number-few i =
       omega (arith, sum_by-take-le (λ (x : Gate). cond (is_and x.operation) 1 0) c.gates i)
 
-  next-by : (i : ℕ) (g : Gate) → slice_get c.gates i ≡ Some g → (b : Bool)
-      → is_and g.operation ≡ b → and_number c (suc i) ≡ and_number c i + cond b 1 0
-  next-by i g at true is = and_number-and c i g at is
-  next-by i g at false is = omega (arith, and_number-other c i g at is)
-
   -- One more gate is counted where it is an AND gate.
   pub and_number-next : (i : ℕ) (g : Gate) → slice_get c.gates i ≡ Some g
       → and_number c (i + 1) ≡ and_number c i + cond (is_and g.operation) 1 0
-  and_number-next i g at = rw (add-one i) (next-by i g at (is_and g.operation) refl)
+  and_number-next i g at =
+      rw (get_or_from_slice_get c.gates i g g at) at (sum_by_more
+      (λ (x : Gate). cond (is_and x.operation) 1 0) c.gates i g (slice_get_within c.gates i g at))
 
-  module _ (from count left i : ℕ)
-      (counted_is : left + and_number c i ≡ count + and_number c from) where
-    -- A piece ends before an AND gate for which none is left, or at the circuit's end.
-    pub ends-before : (g : Gate) → slice_get c.gates i ≡ Some g → is_and g.operation ≡ true
-        → left ≡ 0 → from ≤ i → EndsPiece c from count i
-    ends-before g at and none later =
-        let below = and_number-below c i g at and in
-        record {
-          later = later;
-          gates = omega (arith, slice_get_within c.gates i g at);
-          number = omega (arith, counted_is, none, below);
-          whole = λ all. absurd (omega (arith, all, below));
-        }
-
-    pub ends-last : i ≡ length c.gates → from ≤ length c.gates
-        → (to : ℕ) → to ≡ length c.gates → EndsPiece c from count to
-    ends-last last later to to_is =
-        let passed : and_number c i ≡ and_count c = ap (and_number c) last ∙ and_number-end c in
-        record {
-          later = omega (arith, later, to_is);
-          gates = omega (arith, to_is);
-          number = ap (and_number c) to_is ∙ omega (arith, and_number-end c, counted_is, passed);
-          whole = λ all. to_is;
-        }
+  -- A piece ends before an AND gate for which none is left.
+  pub ends-before : (from count left i : ℕ) → left + and_number c i ≡ count + and_number c from
+      → (g : Gate) → slice_get c.gates i ≡ Some g → is_and g.operation ≡ true → left ≡ 0
+      → from ≤ i → EndsPiece c from count i
+  ends-before from count left i counted g at and none later =
+      let below = and_number-below c i g at and in
+      record {
+        later = later;
+        gates = omega (arith, slice_get_within c.gates i g at);
+        number = omega (arith, below);
+        whole = λ all. absurd (omega (arith, below));
+      }
 
   and_number-suc : (i : ℕ) → and_number c i ≤ and_number c (suc i)
   and_number-suc i = elim (slice_get_cases c.gates i).1 [
-    | inl (g, _, at, _) ↦ omega (arith, next-by i g at (is_and g.operation) refl)
+    | inl (g, _, at, _) ↦ omega (arith, rw add-one at (and_number-next i g at))
     | inr (past, none) ↦
         rw (take_all i c.gates past, take_all (suc i) c.gates (omega arith)) (omega arith)
   ]
-
--- An AND gate was counted.
-pub counted : (b : Bool) (left after : ℕ) → left ≡ after + cond b 1 0 → b ≡ true
-    → left ≡ after + 1
-counted b left after e is = rw is at e
 
 first-tweak : (n m k : ℕ) → 2 * (n + m) + 2 * k ≡ 2 * n + 2 * (m + k)
 first-tweak n m k = omega arith
@@ -80,25 +49,16 @@ module _ (h : ℕ → ℕ → ℕ) (n m k r a b : ℕ) where
   gate_zero-later : (op : Operation)
       → gate_zero (numbered_from (n + m) h) r k op a b
       ≡ gate_zero (numbered_from n h) r (m + k) op a b
-  gate_zero-later (And u v) = rw (first-tweak n m k, second-tweak n m k) refl
-  gate_zero-later (Xor u v) = refl
-  gate_zero-later (Inv u) = refl
-  gate_zero-later (Eq bit) = refl
-  gate_zero-later (Eqw u) = refl
+  gate_zero-later op = grind (arith, first-tweak, second-tweak)
 
   gate_rows-later : (op : Operation)
       → gate_rows (numbered_from (n + m) h) r k op a b
       ≡ gate_rows (numbered_from n h) r (m + k) op a b
-  gate_rows-later (And u v) = rw (first-tweak n m k, second-tweak n m k) refl
-  gate_rows-later (Xor u v) = refl
-  gate_rows-later (Inv u) = refl
-  gate_rows-later (Eq bit) = refl
-  gate_rows-later (Eqw u) = refl
+  gate_rows-later op = grind (arith, first-tweak, second-tweak)
 
 with_row_pair-later : (before rows : List RowPair) (pair : Option RowPair)
     → before ++ with_row_pair rows pair ≡ with_row_pair (before ++ rows) pair
-with_row_pair-later before rows None = refl
-with_row_pair-later before rows (Some pair) = grind (arith, common_steps)
+with_row_pair-later before rows pair = grind (arith, common_steps)
 
 module _ (r first : ℕ) (c : Netlist) (given : List ℕ) (before : List RowPair) where
   -- The piece's row pairs are those of the AND gates after those before it.
@@ -143,13 +103,8 @@ module _ (r first : ℕ) (c : Netlist) (given : List ℕ) (before : List RowPair
         );
         garbled = garbled;
         waiting = λ w unset.
-            waits w
-            (λ same. unset (inr (
-              i,
-              omega arith,
-              record { gate = g; at = at; wire = sym same },
-            )))
-            (is.waiting w (λ set. unset (IsSetBefore-more c i (i + 1) w (omega arith) set)));
+            let yet = not_set_yet c w i g at unset in
+            waits w yet.0 (is.waiting w yet.1);
       }
     where
       h : ℕ → ℕ → ℕ
@@ -174,16 +129,14 @@ module _ (r first : ℕ) (c : Netlist) (given : List ℕ) (before : List RowPair
           g.operation
           ≡ zero_of h r (slice_index old.labels) (length (before ++ piece)) g.operation
       zero-later =
-          rw (is.numbered, is.offset) (gate_zero-later hash first (length before) k r a b
-          g.operation
-          ∙ ap (λ n. gate_zero h r n g.operation a b) number)
+          rw (is.numbered, is.offset, ← number)
+          (gate_zero-later hash first (length before) k r a b g.operation)
 
       rows-later : gate_rows (numbered_from old.first hash) old.offset k g.operation a b
           ≡ gate_rows h r (length (before ++ piece)) g.operation a b
       rows-later =
-          rw (is.numbered, is.offset) (gate_rows-later hash first (length before) k r a b
-          g.operation
-          ∙ ap (λ n. gate_rows h r n g.operation a b) number)
+          rw (is.numbered, is.offset, ← number)
+          (gate_rows-later hash first (length before) k r a b g.operation)
 
       garbled : AreGarbled h r c given (i + 1) new.labels (before ++ new_piece)
       garbled =
@@ -205,54 +158,36 @@ row-later before rows m k count =
     let same : (m + k) - m ≡ k = omega arith in
     right ∙ ap (row_at rows) same
 
-module _ (h : ℕ → ℕ → ℕ) (n m k : ℕ) (row : RowPair) (active : ℕ → ℕ) where
-  numbered-later : (op : Operation)
-      → active_of (numbered_from (n + m) h) active k row op
-      ≡ active_of (numbered_from n h) active (m + k) row op
-  numbered-later (And u v) = rw (first-tweak n m k, second-tweak n m k) refl
-  numbered-later (Xor u v) = refl
-  numbered-later (Inv u) = refl
-  numbered-later (Eq bit) = refl
-  numbered-later (Eqw u) = refl
-
 pub active_of-later : (h : ℕ → ℕ → ℕ) (n m first k number : ℕ) (before rows : List RowPair)
     (active : ℕ → ℕ) (op : Operation) → length before ≡ m → first ≡ n + m → number ≡ m + k
     → active_of (numbered_from first h) active k (row_at rows k) op
     ≡ active_of (numbered_from n h) active number (row_at (before ++ rows) number) op
 active_of-later h n m first k number before rows active op count first_is number_is =
     rw (first_is, number_is, row-later before rows m k count)
-    (numbered-later h n m k (row_at rows k) active op)
+    (grind (arith, first-tweak, second-tweak))
 
 module _ (h : ℕ → ℕ → ℕ) (c : Netlist) (given : ℕ → ℕ) (before rows : List RowPair) where
   -- A gate whose row pair has come is evaluated alike, whatever comes after.
   gate-same : (u v : ℕ → ℕ) → ((w : ℕ) → u w ≡ v w) → (k : ℕ) (op : Operation)
       → (is_and op ≡ true → k < length before)
       → active_of h u k (row_at before k) op ≡ active_of h v k (row_at (before ++ rows) k) op
-  gate-same u v same k (And a b) within =
-      rw (
-        same a,
-        same b,
-        get_or_append_left before rows (record { generator = 0; evaluator = 0 }) k (within refl),
-      ) refl
-  gate-same u v same k (Xor a b) within = rw (same a, same b) refl
-  gate-same u v same k (Inv a) within = same a
-  gate-same u v same k (Eq bit) within = refl
-  gate-same u v same k (Eqw a) within = same a
+  gate-same u v same k op within = grind (arith, same, get_or_append_left)
 
   active-same : (n : ℕ) → and_number c n ≤ length before → (w : ℕ)
       → values_after (active_rule h c before) c given n w
       ≡ values_after (active_rule h c (before ++ rows)) c given n w
   unfolding values_after
   active-same zero few w = refl
-  active-same (suc n) few w = elim (slice_get_cases c.gates n).1 [
-    | inl (g, _, at, _) ↦
-        rw at (λ t. if w == g.set
-        then gate-same _ _
-        (λ v. active-same n (omega (arith, few, and_number-suc c n)) v) (and_number c n)
-        g.operation (λ and. omega (arith, and_number-and c n g at and, few)) t
-        else active-same n (omega (arith, few, and_number-suc c n)) w t)
-    | inr (past, none) ↦ rw none (active-same n (omega (arith, few, and_number-suc c n)) w)
-  ]
+  active-same (suc n) few w =
+      let same = active-same n (omega (arith, few, and_number-suc c n)) in
+      elim (slice_get_cases c.gates n).1 [
+        | inl (g, _, at, _) ↦
+            rw at (λ t. if w == g.set
+            then gate-same _ _ same (and_number c n) g.operation
+            (λ and. omega (arith, and_number-and c n g at and, few)) t
+            else same w t)
+        | inr (past, none) ↦ rw none (same w)
+      ]
 
   -- So the labels of all wires are the same.
   pub active_after-same : (n : ℕ) → and_number c n ≤ length before

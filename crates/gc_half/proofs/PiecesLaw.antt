@@ -1,20 +1,11 @@
 -- The laws of pieces: those that leave are part of a garbling, and those that come are enough for the labels so far.
-use Rattle.gc_half.proofs.Names.{◌≡◌, ℕ, zero, suc, ◌+◌, ◌-◌, ◌<◌, ◌≤◌, ◌++◌, inl, List, length, map, take, take_all, slice_index, refl, sym, ap, subst, ◌∙◌, arith, Netlist, IsLawful, IsSet, IsSetBefore, IsSetBefore-more, output_wires, and_count, agree, after-keeps, solution_solves, RowPair, GarblingParts}
-use Rattle.std.specs.List.{range_with_len}
-use Rattle.std.proofs.lemmas.List.FromFn.{fill_by_all}
-use Rattle.gc_netlist.specs.Solution.{values_after, on_outputs}
-use Rattle.gc_netlist.proofs.Tables.{read-table, IsSetBefore-below}
-use Rattle.gc_half.specs.FirstGates.{label_of}
-use Rattle.gc_half.specs.Hash.{hash, numbered_from}
-use Rattle.gc_half.specs.Garbling.{IsGarbledFrom}
-use Rattle.gc_half.specs.Joined.{output_zero_labels}
-use Rattle.gc_half.specs.Evaluation.{active_rule}
-use Rattle.gc_half.specs.Streaming.{StreamingGarblerParts, IsGarbledSoFar, GarbledPiecesLaw, InputLabelsLaw, EvaluatedPiecesLaw}
+use Rattle.gc_half.proofs.Names.{◌≡◌, ℕ, zero, suc, ◌+◌, ◌-◌, ◌<◌, ◌≤◌, ◌++◌, inl, List, length, map, take, take_all, slice_index, refl, sym, ap, subst, ◌∙◌, arith, Netlist, IsLawful, IsSet, IsSetBefore, IsSetBefore-more, output_wires, and_count, agree, after-keeps, solution_solves, RowPair, GarblingParts, range_with_len, fill_by_all, values_after, on_outputs, read-table, IsSetBefore-below, label_of, hash, numbered_from, IsGarbledFrom, output_zero_labels, StreamingGarblerParts, IsGarbledSoFar}
+use Rattle.gc_half.specs.Streaming.{GarbledPiecesLaw, InputLabelsLaw, EvaluatedPiecesLaw}
 use Rattle.gc_half.proofs.CircuitLaw.{active_local}
 use Rattle.gc_half.proofs.GarblingLemmas.{zero_local, IsGarbling-same}
 use Rattle.gc_half.proofs.LabelsLemmas.{output_zero_labels-are}
 use Rattle.gc_half.proofs.PieceLemmas.{active_after-same}
-use Rattle.gc_half.proofs.RowLemmas.{rows-take}
+use Rattle.gc_half.proofs.RowLemmas.{rows-take, rows}
 use Rattle.gc_half.proofs.StreamingLemmas.{garbler-count}
 
 module _ (c : Netlist) (lawful : IsLawful c) (given : List ℕ) (rows : List RowPair)
@@ -33,9 +24,8 @@ module _ (c : Netlist) (lawful : IsLawful c) (given : List ℕ) (rows : List Row
   first-rows : rows ≡ take g.made all.rows
   first-rows =
       is.garbled.row_pairs
-      ∙ sym (rows-take h g.offset c (label_of h g.offset c given) (slice_index given) all.rows
-      (IsGarbling-same h g.offset c lawful (slice_index given) (slice_index all.zero_labels)
-      (label_of h g.offset c given) all.rows same-label garbled.garbling) g.gates)
+      ∙ sym (rows-take h g.offset c _ _ all.rows
+      (IsGarbling-same h g.offset c lawful _ _ _ _ same-label garbled.garbling) g.gates)
       ∙ ap (λ n. take n all.rows) (sym (garbler-count c given rows g is))
 
   all-rows : g.made ≡ and_count c → rows ≡ all.rows
@@ -97,18 +87,11 @@ outputs-same c lawful given rows g is all garbled whole =
 pub evaluated_pieces : EvaluatedPiecesLaw
 evaluated_pieces c lawful inputs rows e is rest active evaluation w set =
     let h = numbered_from e.first hash in
-    let rule = active_rule h c (rows ++ rest) in
     let local = active_local h c (rows ++ rest) in
-    let same : e.labels
-    ≡ map (values_after rule c (slice_index inputs) e.gates) (range_with_len 0 c.wires) =
-    is.labels
-    ∙ active_after-same h c (slice_index inputs) rows rest e.gates (omega (arith, is.reached)) in
-    ap (λ l. slice_index l w) same
-    ∙ read-table (values_after rule c (slice_index inputs) e.gates) c.wires w 0
-    (IsSetBefore-below c lawful e.gates w set)
-    ∙ sym (after-keeps rule local c lawful (slice_index inputs) e.gates (length c.gates) w is.gates
-    set)
-    ∙ sym (agree rule local c lawful (slice_index inputs) active
-    (values_after rule c (slice_index inputs) (length c.gates)) evaluation
-    (solution_solves rule local c lawful (slice_index inputs)) w
-    (IsSetBefore-more c e.gates (length c.gates) w is.gates set))
+    let given = slice_index inputs in
+    let solves = solution_solves _ local c lawful given in
+    rw (is.labels, active_after-same h c given rows rest e.gates (omega (arith, is.reached)))
+    (read-table _ c.wires w 0 (IsSetBefore-below c lawful e.gates w set)
+    ∙ sym (after-keeps _ local c lawful given e.gates (length c.gates) w is.gates set)
+    ∙ sym (agree _ local c lawful given active _ evaluation solves w
+    (IsSetBefore-more c e.gates (length c.gates) w is.gates set)))

@@ -1,9 +1,15 @@
 -- Which wires are set, and the values of those that are not.
-use Rattle.gc_half.proofs.Names.{◌≡◌, ◌≢◌, ℕ, zero, suc, ◌⊎◌, inl, inr, ⊎_elim, length, slice_get, Some, refl, sym, subst, arith, nat_tests, gets, slice_get_cases, Gate, Netlist, IsSetBy, IsSetBefore, IsSet, IsSetBefore-more}
-use Rattle.std.proofs.lemmas.Bool.{cases_eq}
-use Rattle.gc_netlist.specs.Solution.{values_after}
+use Rattle.gc_half.proofs.Names.{◌≡◌, ◌≢◌, ℕ, zero, suc, ◌⊎◌, inl, inr, ⊎_elim, length, slice_get, Some, refl, sym, subst, arith, nat_tests, gets, slice_get_cases, Gate, Netlist, IsSetBy, IsSetBefore, IsSet, IsSetBefore-more, cases_eq, values_after, ◌+◌}
 
 module _ (c : Netlist) (w : ℕ) where
+  -- Where it is not set after gate n, the gate sets another wire, and it was not set before.
+  pub not_set_yet : (n : ℕ) (g : Gate) → slice_get c.gates n ≡ Some g
+      → ¬ IsSetBefore c (n + 1) w → (w ≢ g.set) × ¬ IsSetBefore c n w
+  not_set_yet n g at unset = (
+    λ same. unset (inr (n, omega arith, record { gate = g; at = at; wire = sym same })),
+    λ set. unset (IsSetBefore-more c n (n + 1) w (omega arith) set),
+  )
+
   -- the last of n + 1 gates set w, or w was set before
   pub last_or_before : (n : ℕ) → IsSetBefore c (suc n) w → IsSetBefore c n w ⊎ IsSetBy c w n
   last_or_before n (inl input) = inl (inl input)

@@ -1,9 +1,9 @@
 -- Tables of labels where AND gates wait.
-use Rattle.gc_half.proofs.Names.{◌≡◌, ℕ, false, List, [], ◌∷◌, set, slice_index, refl, ap, ◌∙◌, arith, nat_tests, Operation, reads, first_read, second_read}
+use Rattle.gc_half.proofs.Names.{◌≡◌, ℕ, false, List, [], ◌∷◌, set, slice_index, refl, ap, ◌∙◌, arith, nat_tests, Operation, reads, first_read, second_read, get_or-set_other, NoneSets}
 use Rattle.std.specs.List.{list_any}
-use Rattle.std.proofs.lemmas.List.{set_comm, get_or-set_other}
+use Rattle.std.proofs.lemmas.List.{set_comm}
 use Rattle.gc_half.specs.declared.waiting.WaitingGate.{WaitingGate}
-use Rattle.gc_half.specs.Waiting.{NoneSets, with_waiting}
+use Rattle.gc_half.specs.Waiting.{with_waiting}
 
 module _ {T : Type 0} (label : T → ℕ) where
   -- A label may be put first, and the gates made then, where they set other wires.

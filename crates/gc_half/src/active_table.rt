@@ -125,6 +125,7 @@ impl<A: Allocator> ActiveTable<A> {
 
     /// The labels of the wires that an operation reads first and second. The caller ensures that no gate that waits
     /// sets one of these wires.
+    #[tactic(auto, using(crate::proofs::WaitingLemmas::reads_with_waiting))]
     #[inline(always)]
     fn read(&self, operation: Operation) -> (Label, Label)
         requires wires { EachRead (λ w. w < length self.now.labels) operation }

@@ -1,6 +1,4 @@
-use Rattle.gc_half.proofs.Names.{◌∙◌, drop, length, refl}
-use Rattle.gc_half.specs.Streaming.{input_labels}
-use Rattle.gc_half.proofs.ListLemmas.{take-front}
+use Rattle.gc_half.proofs.Names.{◌∙◌, drop, length, refl, input_labels, take_at}
 use Rattle.gc_half.proofs.NumberedLemmas.{garbled-under-seed}
 use Rattle.gc_half.proofs.compare.garble_and_compare.Goals as goal
 
@@ -11,7 +9,7 @@ returns-clause-garbled g c =
     let begun = c.in_ok-garbler.ensures in
     let given = input_labels netlist seed in
     let made = c.replace_all-labels.new.rows in
-    let rows = take-front c.args.given.len made (drop (length made) c.args.given.items)
+    let rows = take_at made (drop (length made) c.args.given.items) c.args.given.len
     (c.replace_all-labels.auto.rows ∙ c.deref_mut.ensures.len) in
     rw (c.from_parts-garbling.ensures, rows, c.output_wires.ensures)
     (garbled-under-seed netlist seed given _ _ refl begun.offset

@@ -1,6 +1,5 @@
-use Rattle.gc_half.proofs.Names.{◌≡◌, ◌+◌, ◌<◌, ◌++◌, ◌∷◌, [], length, take, sym, ap, ◌∙◌, arith}
+use Rattle.std.proofs.Common.{◌≡◌, ◌+◌, ◌<◌, ◌++◌, ◌∷◌, [], length, take, sym, ap, ◌∙◌, arith, append_assoc}
 use Rattle.std.proofs.lemmas.List.{take_more, take_more_set}
-use Rattle.std.proofs.Common.{append_assoc}
 use Rattle.gc_half.proofs.ComparingLemmas.{compared-next}
 use Rattle.gc_half.proofs.compare.replace.Goals as goal
 

@@ -1,6 +1,4 @@
-use Rattle.gc_half.proofs.Names.{◌≡◌, ◌+◌, ◌++◌, List, take}
-use Rattle.gc_half.specs.declared.garbling.RowPair.{RowPair}
-use Rattle.gc_half.specs.Comparing.{AreCompared}
+use Rattle.gc_half.proofs.Names.{◌≡◌, ◌+◌, ◌++◌, List, take, RowPair, AreCompared}
 use Rattle.gc_half.proofs.compare.replace.Given as goal
 
 abbrev pub invariant-loop-i : goal.invariant-loop-i

@@ -1,5 +1,4 @@
-use Rattle.gc_half.proofs.Names.{◌≡◌, refl, take_all, arith, and_count}
-use Rattle.std.proofs.lemmas.List.{get_or_past}
+use Rattle.gc_half.proofs.Names.{◌≡◌, refl, take_all, arith, and_count, get_or_past}
 use Rattle.gc_half.proofs.GarbleLemmas.{garbled-whole}
 use Rattle.gc_half.proofs.compare.replace_all.Goals as goal
 
@@ -18,4 +17,4 @@ returns-clause-garbled g c = λ given begun.
     rw (c.into_labels.ensures, ← before.offset, ← before.numbered)
     (garbled-whole end.first end.offset netlist given c.law_lawful.ensures
     (λ w past. get_or_past given w 0 (omega (arith, is.inputs, past))) end.labels c.loop-piece.rows
-    _ is.wires (rw (before.begun.whole whole) at is.garbled) refl)
+    is.wires (rw (before.begun.whole whole) at is.garbled))

@@ -1,6 +1,5 @@
-use Rattle.gc_half.proofs.Names.{◌≡◌, ℕ, ◌-◌, [], List, and_count, take}
-use Rattle.gc_half.specs.Comparing.{AreCompared}
-use Rattle.gc_half.specs.Streaming.{IsGarbledSoFar, IsGarblerOf}
+use Rattle.gc_half.proofs.Names.{◌≡◌, ℕ, ◌-◌, [], List, and_count, take, AreCompared, IsGarbledSoFar}
+use Rattle.gc_half.specs.Streaming.{IsGarblerOf}
 use Rattle.gc_half.proofs.compare.replace_all.Given as goal
 
 abbrev pub invariant-loop-piece : goal.invariant-loop-piece

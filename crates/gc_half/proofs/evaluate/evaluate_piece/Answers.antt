@@ -1,51 +1,13 @@
-use Rattle.gc_half.proofs.Names.{◌≡◌, ◌+◌, ◌<◌, ◌++◌, length, sym, refl, ◌∙◌, ap, inr, arith, and_number, slice_index, EachRead-map, IsSetBefore-more}
-use Rattle.std.proofs.Common.{length-set}
-use Rattle.gc_netlist.proofs.Tables.{table_step, EachRead-below}
-use Rattle.gc_half.specs.Hash.{hash, numbered_from}
-use Rattle.gc_half.specs.Evaluation.{active_rule}
+use Rattle.gc_half.proofs.Names.{◌++◌, length, refl, ◌∙◌, ap, arith, and_number, slice_index, length-set, table_step, hash, numbered_from, active_rule}
 use Rattle.gc_half.proofs.CircuitLaw.{active_local}
-use Rattle.gc_half.proofs.PieceLemmas.{active_of-later, and_number-next, counted, ends-before, ends-last}
-use Rattle.gc_half.proofs.StreamingLemmas.{ands-few}
+use Rattle.gc_half.proofs.PieceLemmas.{active_of-later, and_number-next, ends-before}
+use Rattle.gc_half.proofs.SetWires.{not_set_yet}
 use Rattle.gc_half.proofs.evaluate.evaluate_piece.Goals as goal
 
-pub loop-i-init : goal.loop-i-init
-loop-i-init g c = record {
-  can = c.requires.begun;
-  evaluated = record { numbered = refl; labels = λ first inputs before n m is. is };
-  few = omega arith;
-  left = refl;
-}
-
-pub overflow_cast-rows : goal.overflow_cast-rows
-overflow_cast-rows g c =
-    omega (
-      arith,
-      c.requires.room,
-      ands-few c.args.circuit.now,
-      c.law_lawful.ensures.few_gates,
-    )
-
-pub step-requires : goal.step-requires
-step-requires g c =
-    let netlist = c.args.circuit.now in
-    let lawful = c.law_lawful.ensures in
-    let i = c.loop-i.i in
-    let gate = c.gate-gate.result in
-    let at = c.gate-gate.ensures in
-    let can = c.loop-i.invariant.can in
-    record {
-      row = λ and. omega (
-        arith,
-        c.loop-i.invariant.few,
-        counted _ _ _ c.in-Some.ensures and,
-      );
-      read =
-          EachRead-map (λ w. w < netlist.wires) (λ w. w < length c.loop-i.table.labels)
-          gate.operation (λ w h. omega (arith, can.wires, h))
-          (EachRead-below netlist lawful i gate at);
-      place = omega (arith, can.wires, lawful.sets i gate at);
-      once = can.waiting gate.set (lawful.sets_once i gate at);
-    }
+pub step-requires-clause-once : goal.step-requires-clause-once
+step-requires-clause-once g c =
+    c.loop-i.invariant.can.waiting c.gate-gate.result.set
+    (c.law_lawful.ensures.sets_once c.loop-i.i c.gate-gate.result c.gate-gate.ensures)
 
 pub loop-i-preserved : goal.loop-i-preserved
 loop-i-preserved g c =
@@ -60,11 +22,9 @@ loop-i-preserved g c =
     record {
       can = record {
         wires = ap length step.labels ∙ length-set _ gate.set _ ∙ before.can.wires;
-        waiting = λ w unset. step.waiting w
-            (λ same. unset
-            (inr (i, omega arith, record { gate = gate; at = at; wire = sym same })))
-            (before.can.waiting w
-            (λ set. unset (IsSetBefore-more netlist i (i + 1) w (omega arith) set)));
+        waiting = λ w unset.
+            let yet = not_set_yet netlist w i gate at unset in
+            step.waiting w yet.0 (before.can.waiting w yet.1);
       };
       evaluated = record {
         numbered = step.numbered ∙ before.evaluated.numbered;
@@ -93,15 +53,3 @@ returns-in_default-clause-ends g c =
     ends-before c.args.circuit.now _ _ _ _ c.loop-i.invariant.left c.gate-gate.result
     c.gate-gate.ensures c.in_default.ensures.0 c.in_default.ensures.1
     (omega (arith, c.loop-i.auto.i))
-
-pub returns-clause-evaluated : goal.returns-clause-evaluated
-returns-clause-evaluated g c =
-    let ends : c.loop-i.i ≡ c.gates.result =
-    omega (arith, c.requires.gates, c.gates-i-end.ensures.count, c.gates.ensures.count) in
-    rw (← ends) c.loop-i.invariant.evaluated
-
-pub returns-clause-ends : goal.returns-clause-ends
-returns-clause-ends g c =
-    ends-last c.args.circuit.now _ _ _ _ c.loop-i.invariant.left
-    (omega (arith, c.requires.gates, c.gates-i-end.ensures.count)) c.requires.gates _
-    c.gates.ensures.count

@@ -1,6 +1,4 @@
-use Rattle.std.proofs.Common.{◌∙◌, ◌-◌, ap, drop}
-use Rattle.gc_netlist.specs.Circuit.{output_wires}
-use Rattle.gc_netlist.proofs.Tables.{table_end}
+use Rattle.gc_half.proofs.Names.{◌∙◌, ◌-◌, ap, drop, output_wires, table_end}
 use Rattle.gc_half.proofs.evaluate.output_labels.Goals as goal
 
 pub returns-clause-last : goal.returns-clause-last

@@ -1,4 +1,4 @@
-use Rattle.gc_half.proofs.Names.{◌+◌, ◌∙◌, add-one, refl, sym, ap, arith}
+use Rattle.std.proofs.Common.{refl, arith, length, ◌≡◌}
 use Rattle.gc_half.proofs.AndNumbers.{and_number-and, and_number-other}
 use Rattle.gc_half.proofs.FourLemmas.{lane-start, can-step, lane-next, lane-end}
 use Rattle.gc_half.proofs.four.evaluate_four_from.Goals as goal
@@ -28,8 +28,11 @@ step-requires g c =
 
 pub loop-i-preserved : goal.loop-i-preserved
 loop-i-preserved g c =
+    let circuit = c.args.circuit.now in
     let lawful = c.gates-i-end.ensures.lawful in
     let is = c.loop-i.invariant in
+    let i = c.loop-i.i in
+    let gate = c.gate-gate.result in
     let at = c.gate-gate.ensures in
     record {
       lanes = (
@@ -38,32 +41,17 @@ loop-i-preserved g c =
         lane-next lawful is.lanes.2 at is.numbered c.step.ensures.2,
         lane-next lawful is.lanes.3 at is.numbered c.step.ensures.3,
       );
-      numbered = rw (add-one c.loop-i.i) (elim c.if-is_and.branch [
-        | then-is_and w ↦ w.k-is ∙ ap (λ n. n + 1) is.numbered
-            ∙ sym (and_number-and c.args.circuit.now c.loop-i.i c.gate-gate.result
-            at (sym c.is_and.ensures ∙ w.if-is_and.true))
-        | else-is_and w ↦ w.k-is ∙ is.numbered
-            ∙ sym (and_number-other c.args.circuit.now c.loop-i.i c.gate-gate.result
-            at (sym c.is_and.ensures ∙ w.if-is_and.false))
-      ]);
+      numbered = grind (arith, and_number-and circuit i gate, and_number-other circuit i gate);
     }
 
-pub returns-clause-a : goal.returns-clause-a
-returns-clause-a g c =
-    lane-end c.args.first c.gates-i-end.ensures.lawful c.loop-i.invariant.lanes.0
-    (omega (arith, c.gates-i-end.ensures.count)) c.into_labels.ensures
-
-pub returns-clause-b : goal.returns-clause-b
-returns-clause-b g c =
-    lane-end c.args.first c.gates-i-end.ensures.lawful c.loop-i.invariant.lanes.1
-    (omega (arith, c.gates-i-end.ensures.count)) c.into_labels-2.ensures
-
-pub returns-clause-c : goal.returns-clause-c
-returns-clause-c g c =
-    lane-end c.args.first c.gates-i-end.ensures.lawful c.loop-i.invariant.lanes.2
-    (omega (arith, c.gates-i-end.ensures.count)) c.into_labels-3.ensures
-
-pub returns-clause-d : goal.returns-clause-d
-returns-clause-d g c =
-    lane-end c.args.first c.gates-i-end.ensures.lawful c.loop-i.invariant.lanes.3
-    (omega (arith, c.gates-i-end.ensures.count)) c.into_labels-4.ensures
+pub returns : goal.returns
+returns g c =
+    let lawful = c.gates-i-end.ensures.lawful in
+    let lanes = c.loop-i.invariant.lanes in
+    let ends : c.loop-i.i ≡ length c.args.circuit.now.gates = omega arith in
+    record {
+      a = lane-end lawful lanes.0 ends c.into_labels.ensures;
+      b = lane-end lawful lanes.1 ends c.into_labels-2.ensures;
+      c = lane-end lawful lanes.2 ends c.into_labels-3.ensures;
+      d = lane-end lawful lanes.3 ends c.into_labels-4.ensures;
+    }

@@ -1,14 +1,7 @@
-use Rattle.gc_half.proofs.Names.{◌≡◌, ◌<◌, length, refl, ◌∙◌, arith, IsSetBefore, EachRead-map}
+use Rattle.gc_half.proofs.Names.{◌≡◌, ◌∙◌, arith, EachRead-map}
 use Rattle.gc_half.proofs.AndNumbers.{and_number-le}
-use Rattle.gc_half.proofs.PieceLemmas.{and_number-next, ends-before, ends-last, piece-count, piece-next}
+use Rattle.gc_half.proofs.PieceLemmas.{and_number-next, ends-before, piece-count, piece-next}
 use Rattle.gc_half.proofs.garble.garble_piece.Goals as goal
-
-pub loop-i-init : goal.loop-i-init
-loop-i-init g c = record {
-  garbled = λ r first given before is. is;
-  rest = λ i past. refl;
-  left = refl;
-}
 
 pub step-requires : goal.step-requires
 step-requires g c =
@@ -22,30 +15,11 @@ step-requires g c =
     let first_count = piece-count begun.0 begun.1 netlist begun.2 begun.3 _ _ _ start in
     let count = piece-count begun.0 begun.1 netlist begun.2 begun.3 _ _ _ is in
     record {
-      read =
-          EachRead-map (IsSetBefore netlist i) (λ w. w < length c.loop-i.table.labels)
-          c.gate-gate.result.operation is.garbled.there
-          (lawful.reads i c.gate-gate.result at);
-      place = omega (arith, lawful.sets i c.gate-gate.result at, is.wires);
+      read = EachRead-map _ _ _ is.garbled.there (lawful.reads i c.gate-gate.result at);
+      place = omega (arith, lawful.sets i c.gate-gate.result at);
       once = is.waiting c.gate-gate.result.set (lawful.sets_once i c.gate-gate.result at);
-      room = omega (
-        arith,
-        c.loop-i.invariant.left,
-        c.in-Some.ensures,
-        is.counted,
-        start.counted,
-        c.requires.none,
-        count,
-        first_count,
-      );
-      number = omega (
-        arith,
-        is.counted,
-        count,
-        and_number-le netlist i,
-        c.gates-i-end.ensures.count,
-        lawful.few_gates,
-      );
+      room = omega (arith, c.in-Some.ensures);
+      number = omega (arith, and_number-le netlist i);
     }
 
 pub loop-i-preserved : goal.loop-i-preserved
@@ -80,9 +54,3 @@ returns-clause-garbled g c =
     let ends : c.loop-i.i ≡ c.gates.result =
     omega (arith, c.requires.gates, c.gates-i-end.ensures.count, c.gates.ensures.count) in
     rw (← ends) c.loop-i.invariant.garbled
-
-pub returns-clause-ends : goal.returns-clause-ends
-returns-clause-ends g c =
-    ends-last c.args.circuit.now _ _ _ _ c.loop-i.invariant.left
-    (omega (arith, c.requires.gates, c.gates-i-end.ensures.count)) c.requires.gates _
-    c.gates.ensures.count

@@ -1,7 +1,5 @@
-use Rattle.gc_half.proofs.Names.{◌≡◌, ◌+◌, length, and_number}
-use Rattle.gc_half.specs.Pieces.{GarblesOn}
+use Rattle.gc_half.proofs.Names.{◌≡◌, ◌+◌, length, and_number, GarblesOn, rows_made}
 use Rattle.gc_half.specs.Streaming.{KeepsFrom}
-use Rattle.gc_half.specs.Waiting.{rows_made}
 use Rattle.gc_half.proofs.garble.garble_piece.Given as goal
 
 abbrev pub invariant-loop-i : goal.invariant-loop-i

@@ -1,4 +1,4 @@
-use Rattle.gc_half.proofs.Names.{[], sym, ◌∙◌, take_all, arith}
+use Rattle.gc_half.proofs.Names.{[], sym, ◌∙◌, take_all, arith, length, ◌≤◌}
 use Rattle.gc_half.proofs.StreamingLemmas.{ands-few, whole-begun, whole-made, whole-garbled}
 use Rattle.gc_half.proofs.garble.garble_whole.Goals as goal
 
@@ -9,50 +9,28 @@ garble_piece-table-requires-clause-begun g c =
       t.first,
       t.labels,
       [],
-      whole-begun c.args.circuit.now c.law_lawful.ensures t c.requires.wires c.requires.made
-          c.requires.waiting c.args.rows.now,
+      whole-begun c.law_lawful.ensures c.requires.wires c.requires.made c.requires.waiting _,
     )
 
-pub finish-labels-requires-clause-room : goal.finish-labels-requires-clause-room
-finish-labels-requires-clause-room g c =
+pub finish-labels-requires : goal.finish-labels-requires
+finish-labels-requires g c =
     let ensured = c.garble_piece-table.ensures in
-    omega (
-      arith,
-      whole-made c.args.circuit.now c.law_lawful.ensures c.args.table c.requires.wires
-          c.requires.made c.requires.waiting c.args.rows.now ensured.garbled c.requires.places
-          ensured.ends,
-      c.requires.places,
-      c.garble_piece-table.auto.rows,
-    )
-
-pub finish-labels-requires-clause-number : goal.finish-labels-requires-clause-number
-finish-labels-requires-clause-number g c =
-    let lawful = c.law_lawful.ensures in
-    let ensured = c.garble_piece-table.ensures in
-    omega (
-      arith,
-      whole-made c.args.circuit.now lawful c.args.table c.requires.wires c.requires.made
-          c.requires.waiting c.args.rows.now ensured.garbled c.requires.places ensured.ends,
-      ands-few c.args.circuit.now,
-      lawful.few_gates,
-    )
+    let made = whole-made c.law_lawful.ensures c.requires.wires c.requires.made c.requires.waiting _
+    ensured.garbled c.requires.places ensured.ends in
+    record {
+      room = omega (arith, made, c.requires.places, c.garble_piece-table.auto.rows);
+      number = omega (arith, made, ands-few c.args.circuit.now, c.law_lawful.ensures.few_gates);
+    }
 
 pub returns : goal.returns
 returns g c =
-    let netlist = c.args.circuit.now in
     let lawful = c.law_lawful.ensures in
     let ensured = c.garble_piece-table.ensures in
     let finish = c.finish-labels.ensures in
-    let rows = sym (take_all c.finish-labels.result.1 c.finish-labels.new.rows (omega (
-      arith,
-      finish.made,
-      whole-made netlist lawful c.args.table c.requires.wires c.requires.made c.requires.waiting
-          c.args.rows.now ensured.garbled c.requires.places ensured.ends,
-      c.requires.places,
-      c.garble_piece-table.auto.rows,
-      c.finish-labels.auto.rows,
-    )))
-    ∙ finish.rows in
+    let made = whole-made lawful c.requires.wires c.requires.made c.requires.waiting _
+    ensured.garbled c.requires.places ensured.ends in
+    let all : length c.finish-labels.new.rows ≤ c.finish-labels.result.1 = omega (arith, made) in
+    let rows = sym (take_all _ _ all) ∙ finish.rows in
     rw (finish.labels, rows)
-    (whole-garbled netlist lawful c.args.table c.requires.wires c.requires.made c.requires.waiting
-    c.args.rows.now ensured.garbled c.requires.places ensured.ends c.requires.others)
+    (whole-garbled lawful c.requires.wires c.requires.made c.requires.waiting _ ensured.garbled
+    c.requires.places ensured.ends c.requires.others)

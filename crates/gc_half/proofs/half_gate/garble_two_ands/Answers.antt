@@ -1,5 +1,4 @@
-use Rattle.std.proofs.Common.{◌∙◌}
-use Rattle.gc_half.specs.Hash.{hash}
+use Rattle.gc_half.proofs.Names.{◌∙◌, hash}
 use Rattle.gc_half.proofs.NumberedLemmas.{and_garbled-zero}
 use Rattle.gc_half.proofs.half_gate.garble_two_ands.Goals as goal
 

@@ -1,5 +1,4 @@
-use Rattle.std.proofs.Common.{◌∙◌}
-use Rattle.gc_half.specs.Hash.{hash, numbered_from}
+use Rattle.gc_half.proofs.Names.{◌∙◌, hash, numbered_from}
 use Rattle.gc_half.proofs.half_gate.garble_two_ands_from.Goals as goal
 
 pub returns-clause-one : goal.returns-clause-one

@@ -1,6 +1,5 @@
-use Rattle.std.proofs.Common.{arith}
-use Rattle.std.proofs.lemmas.Grind.{common_steps}
-use Rattle.gc_netlist.proofs.Tables.{table_padded}
+use Rattle.gc_half.proofs.Names.{arith, common_steps, table_padded}
+use Rattle.gc_half.proofs.StreamingLemmas.{padded}
 use Rattle.gc_half.proofs.labels.padded_labels.Goals as goal
 
 pub returns : goal.returns

@@ -1,6 +1,5 @@
-use Rattle.std.proofs.Common.{arith}
+use Rattle.gc_half.proofs.Names.{arith, and_number}
 use Rattle.std.proofs.lemmas.List.FromFn.{map-range_with_len_more}
-use Rattle.gc_netlist.specs.Circuit.{and_number}
 use Rattle.gc_half.proofs.AndNumbers.{and_number-and, and_number-other}
 use Rattle.gc_half.proofs.numbers.and_numbers.Goals as goal
 use Rattle.gc_half.proofs.numbers.and_numbers.Goals.{then-is_and, else-is_and}

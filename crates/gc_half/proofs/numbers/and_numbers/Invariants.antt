@@ -1,6 +1,4 @@
-use Rattle.std.proofs.Common.{◌≡◌, map}
-use Rattle.std.specs.List.{range_with_len}
-use Rattle.gc_netlist.specs.Circuit.{and_number}
+use Rattle.gc_half.proofs.Names.{◌≡◌, map, range_with_len, and_number}
 use Rattle.gc_half.proofs.numbers.and_numbers.Given as goal
 
 abbrev pub invariant-loop-i : goal.invariant-loop-i

@@ -1,5 +1,4 @@
-use Rattle.gc_half.proofs.Names.{◌≡◌, ◌<◌, ◌∙◌, length, refl, sym, arith, IsSetBefore, EachRead-map}
-use Rattle.gc_half.specs.Hash.{hash, numbered_from}
+use Rattle.gc_half.proofs.Names.{◌≡◌, ◌∙◌, length, refl, sym, arith, EachRead-map, hash, numbered_from}
 use Rattle.gc_half.proofs.GarbleLemmas.{few_rows, count_rows, garbled-start, garbled-step, garbled-end}
 use Rattle.gc_half.proofs.two.garble_both.Goals as goal
 
@@ -17,63 +16,44 @@ loop-i-init g c =
           (omega (arith, c.requires.other)) (omega (arith, c.requires.other, lawful.inputs_fit));
     })
 
-pub step-requires-clause-read : goal.step-requires-clause-read
-step-requires-clause-read g c =
-    EachRead-map (IsSetBefore c.args.circuit.now c.loop-i.i)
-    (λ w. w < length c.loop-i.one.labels.items)
-    c.gate.result.operation c.loop-i.invariant.one.there
-    (c.gates-i-end.ensures.lawful.reads c.loop-i.i c.gate.result c.gate.ensures)
-
-pub step-requires-clause-other_read : goal.step-requires-clause-other_read
-step-requires-clause-other_read g c =
-    EachRead-map (IsSetBefore c.args.circuit.now c.loop-i.i)
-    (λ w. w < length c.loop-i.other.labels.items)
-    c.gate.result.operation c.loop-i.invariant.other.there
-    (c.gates-i-end.ensures.lawful.reads c.loop-i.i c.gate.result c.gate.ensures)
-
-pub step-requires-clause-number : goal.step-requires-clause-number
-step-requires-clause-number g c =
-    omega (arith, few_rows _ _ c.args.circuit.now _ c.loop-i.i _ _ c.loop-i.invariant.one)
-
-pub step-requires-clause-same : goal.step-requires-clause-same
-step-requires-clause-same g c =
-    count_rows _ _ c.args.circuit.now _ c.loop-i.i _ _ c.loop-i.invariant.other
-    ∙ sym (count_rows _ _ c.args.circuit.now _ c.loop-i.i _ _ c.loop-i.invariant.one)
+pub step-requires : goal.step-requires
+step-requires g c =
+    let lawful = c.gates-i-end.ensures.lawful in
+    let reads = lawful.reads c.loop-i.i c.gate.result c.gate.ensures in
+    let is = c.loop-i.invariant in
+    record {
+      read = EachRead-map _ _ _ is.one.there reads;
+      other_read = EachRead-map _ _ _ is.other.there reads;
+      place = omega (arith, lawful.sets c.loop-i.i c.gate.result c.gate.ensures);
+      few = omega (arith, is.one.few);
+      other_few = omega (arith, is.other.few);
+      number = omega (arith, few_rows _ _ _ _ _ _ _ is.one);
+      same = count_rows _ _ _ _ _ _ _ is.other ∙ sym (count_rows _ _ _ _ _ _ _ is.one);
+    }
 
 pub loop-i-preserved : goal.loop-i-preserved
 loop-i-preserved g c =
-    let h = numbered_from 0 hash in
-    let netlist = c.args.circuit.now in
     let lawful = c.gates-i-end.ensures.lawful in
+    let wires = c.wires.ensures.count in
     let at = c.gate.ensures in
     let before = c.loop-i.invariant in
     let step = c.in_ok-step.ensures in
     record {
       offset = step.offset ∙ before.offset;
       other_offset = step.other_offset ∙ before.other_offset;
-      one =
-          garbled-step h c.args.one.offset netlist c.args.one.labels.items lawful c.loop-i.i
-          c.gate.result at _ _ _ _ _ _ before.one before.offset c.wires.ensures.count step.one;
-      other =
-          garbled-step h c.args.other.offset netlist c.args.other.labels.items lawful c.loop-i.i
-          c.gate.result at _ _ _ _ _ _ before.other before.other_offset c.wires.ensures.count
-          step.other;
+      one = garbled-step _ _ _ _ lawful at before.one before.offset wires step.one;
+      other = garbled-step _ _ _ _ lawful at before.other before.other_offset wires step.other;
     }
 
-pub returns-clause-one : goal.returns-clause-one
-returns-clause-one g c =
+pub returns : goal.returns
+returns g c =
+    let netlist = c.args.circuit.now in
+    let lawful = c.gates-i-end.ensures.lawful in
     let before = c.loop-i.invariant in
-    let ends : c.loop-i.i ≡ length c.args.circuit.now.gates = omega arith in
-    rw c.in_ok-finish.ensures
-    (garbled-end 0 c.args.one.offset c.args.circuit.now c.args.one.labels.items
-    c.gates-i-end.ensures.lawful c.requires.one c.loop-i.one.labels.items _ _ _ _ _
-    (rw (← ends) before.one) refl refl refl refl)
-
-pub returns-clause-other : goal.returns-clause-other
-returns-clause-other g c =
-    let before = c.loop-i.invariant in
-    let ends : c.loop-i.i ≡ length c.args.circuit.now.gates = omega arith in
-    rw c.in_ok-finish-2.ensures
-    (garbled-end 0 c.args.other.offset c.args.circuit.now c.args.other.labels.items
-    c.gates-i-end.ensures.lawful c.requires.other c.loop-i.other.labels.items _ _ _ _ _
-    (rw (← ends) before.other) refl refl refl refl)
+    let ends : c.loop-i.i ≡ length netlist.gates = omega arith in
+    record {
+      one = rw c.in_ok-finish.ensures (garbled-end 0 _ netlist _ lawful c.requires.one _ _
+          (rw (← ends) before.one));
+      other = rw c.in_ok-finish-2.ensures (garbled-end 0 _ netlist _ lawful c.requires.other _ _
+          (rw (← ends) before.other));
+    }

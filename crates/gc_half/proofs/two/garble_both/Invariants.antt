@@ -1,6 +1,4 @@
-use Rattle.gc_half.proofs.Names.{◌≡◌}
-use Rattle.gc_half.specs.Hash.{hash, numbered_from}
-use Rattle.gc_half.specs.FirstGates.{AreGarbled}
+use Rattle.gc_half.proofs.Names.{◌≡◌, hash, numbered_from, AreGarbled}
 use Rattle.gc_half.proofs.two.garble_both.Given as goal
 
 abbrev pub invariant-loop-i : goal.invariant-loop-i

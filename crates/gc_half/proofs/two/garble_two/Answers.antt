@@ -1,5 +1,4 @@
-use Rattle.std.proofs.lemmas.Result.{IfOk-weaker}
-use Rattle.gc_netlist.proofs.Tables.{length-table}
+use Rattle.gc_half.proofs.Names.{IfOk-weaker, length-table}
 use Rattle.gc_half.proofs.NumberedLemmas.{garbled-under-seed}
 use Rattle.gc_half.proofs.two.garble_two.Goals as goal
 

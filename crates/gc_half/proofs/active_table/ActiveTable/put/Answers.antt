@@ -1,5 +1,4 @@
-use Rattle.gc_half.specs.Hash.{hash, numbered_from}
-use Rattle.gc_half.specs.Waiting.{gates_in, active_label_by_step}
+use Rattle.gc_half.proofs.Names.{hash, numbered_from, gates_in, active_label_by_step}
 use Rattle.gc_half.proofs.WaitingLemmas.{with_waiting-put}
 use Rattle.gc_half.proofs.active_table.ActiveTable.put.Goals as goal
 

@@ -1,21 +1,6 @@
-use Rattle.gc_half.proofs.Names.{◌+◌, ◌++◌, ◌∙◌, ap, sym, slice_index, arith}
-use Rattle.std.proofs.Common.{length-append}
-use Rattle.gc_netlist.proofs.Tables.{length-table}
-use Rattle.gc_half.specs.Hash.{hash, numbered_from}
-use Rattle.gc_half.proofs.PieceLemmas.{active_after-same, and_number-few}
-use Rattle.gc_half.proofs.StreamingLemmas.{ands-few}
+use Rattle.gc_half.proofs.Names.{◌+◌, ◌++◌, ◌∙◌, ap, sym, slice_index, arith, length-append, length-table, hash, numbered_from}
+use Rattle.gc_half.proofs.PieceLemmas.{active_after-same}
 use Rattle.gc_half.proofs.streaming_evaluator.StreamingEvaluator.advance.Goals as goal
-
-pub plus-requires : goal.plus-requires
-plus-requires g c =
-    let is = rw (← c.self.view_is) at c.requires.begun.2 in
-    omega (
-      arith,
-      is.numbers,
-      is.used,
-      is.reached,
-      and_number-few c.args.circuit.now c.self.inside.gates,
-    )
 
 pub evaluate_piece-active-requires-clause-begun : goal.evaluate_piece-active-requires-clause-begun
 evaluate_piece-active-requires-clause-begun g c =
@@ -25,22 +10,6 @@ evaluate_piece-active-requires-clause-begun g c =
           (length-table _ c.args.circuit.now.wires _ is.labels);
       waiting = λ w unset. rw c.new-begun.ensures.waiting tt;
     }
-
-pub evaluate_piece-active-requires-clause-room : goal.evaluate_piece-active-requires-clause-room
-evaluate_piece-active-requires-clause-room g c =
-    let is = rw (← c.self.view_is) at c.requires.begun.2 in
-    let room = rw (← c.self.view_is) at c.requires.room in
-    omega (arith, room, is.used, is.reached)
-
-pub overflow_cast-self : goal.overflow_cast-self
-overflow_cast-self g c =
-    let room = rw (← c.self.view_is) at c.requires.room in
-    omega (arith, room, ands-few c.args.circuit.now, c.law_lawful.ensures.few_gates)
-
-pub overflow_add-self : goal.overflow_add-self
-overflow_add-self g c =
-    let room = rw (← c.self.view_is) at c.requires.room in
-    omega (arith, room, ands-few c.args.circuit.now, c.law_lawful.ensures.few_gates)
 
 pub returns-clause-piece : goal.returns-clause-piece
 returns-clause-piece g c = λ inputs before began.

@@ -1,4 +1,4 @@
-use Rattle.gc_half.proofs.Names.{[]}
+use Rattle.std.proofs.Common.{[]}
 use Rattle.gc_half.proofs.StreamingLemmas.{evaluator-begun}
 use Rattle.gc_half.proofs.streaming_evaluator.StreamingEvaluator.begin.Goals as goal
 

@@ -1,4 +1,4 @@
-use Rattle.gc_half.proofs.Names.{◌++◌, ◌∙◌, take, arith}
+use Rattle.std.proofs.Common.{◌++◌, ◌∙◌, take, arith}
 use Rattle.gc_half.proofs.StreamingLemmas.{ands-few, garbler-number, piece-begun, piece-made, piece-whole, garbler-after}
 use Rattle.gc_half.proofs.streaming_garbler.StreamingGarbler.advance.Goals as goal
 
@@ -15,44 +15,27 @@ garble_piece-table-requires-clause-begun g c =
       c.self.inside.first,
       c.requires.0,
       c.requires.1,
-      piece-begun _ _ _ _ is begins c.plus-first.ensures c.args.rows.now,
+      piece-begun is begins c.plus-first.ensures _,
     )
 
-pub finish-labels-requires-clause-room : goal.finish-labels-requires-clause-room
-finish-labels-requires-clause-room g c =
+pub finish-labels-requires : goal.finish-labels-requires
+finish-labels-requires g c =
     let is = rw (← c.self.view_is) at c.requires.2 in
     let begins = rw c.replace-labels.ensures.value at c.new-begun.ensures in
     let ensured = c.garble_piece-table.ensures in
-    omega (
-      arith,
-      piece-made _ _ _ _ is begins c.plus-first.ensures _ ensured.garbled ensured.ends,
-      c.garble_piece-table.auto.rows,
-    )
-
-pub finish-labels-requires-clause-number : goal.finish-labels-requires-clause-number
-finish-labels-requires-clause-number g c =
-    let is = rw (← c.self.view_is) at c.requires.2 in
-    let begins = rw c.replace-labels.ensures.value at c.new-begun.ensures in
-    let ensured = c.garble_piece-table.ensures in
-    omega (
-      arith,
-      piece-made _ _ _ _ is begins c.plus-first.ensures _ ensured.garbled ensured.ends,
-      ands-few c.args.circuit.now,
-      c.law_lawful.ensures.few_gates,
-    )
+    let made = piece-made is begins c.plus-first.ensures _ ensured.garbled ensured.ends in
+    record {
+      room = omega (arith, made, c.garble_piece-table.auto.rows);
+      number = omega (arith, made, ands-few c.args.circuit.now, c.law_lawful.ensures.few_gates);
+    }
 
 pub overflow_add-self : goal.overflow_add-self
 overflow_add-self g c =
     let is = rw (← c.self.view_is) at c.requires.2 in
     let begins = rw c.replace-labels.ensures.value at c.new-begun.ensures in
     let ensured = c.garble_piece-table.ensures in
-    omega (
-      arith,
-      c.finish-labels.ensures.made,
-      piece-made _ _ _ _ is begins c.plus-first.ensures _ ensured.garbled ensured.ends,
-      ands-few c.args.circuit.now,
-      c.law_lawful.ensures.few_gates,
-    )
+    let made = piece-made is begins c.plus-first.ensures _ ensured.garbled ensured.ends in
+    omega (arith, made, ands-few c.args.circuit.now, c.law_lawful.ensures.few_gates)
 
 pub returns-clause-piece : goal.returns-clause-piece
 returns-clause-piece g c = λ given rows began.
@@ -61,8 +44,8 @@ returns-clause-piece g c = λ given rows began.
     let ensured = c.garble_piece-table.ensures in
     let finish = c.finish-labels.ensures in
     rw finish.rows
-    (garbler-after _ _ _ _ is begins c.plus-first.ensures _ ensured.garbled ensured.ends _ _
-    finish.labels finish.made)
+    (garbler-after is begins c.plus-first.ensures _ ensured.garbled ensured.ends _ _ finish.labels
+    finish.made)
 
 pub returns-clause-begun : goal.returns-clause-begun
 returns-clause-begun g c =
@@ -73,8 +56,8 @@ returns-clause-begun g c =
       given = c.requires.0;
       rows = c.requires.1 ++ take c.finish-labels.result.1 c.finish-labels.new.rows;
       so_far = returns-clause-piece g c c.requires.0 c.requires.1 c.requires.2;
-      whole = piece-whole _ _ _ _ is begins c.plus-first.ensures _ ensured.garbled
-          ensured.ends _ c.finish-labels.ensures.made;
+      whole = piece-whole is begins c.plus-first.ensures _ ensured.garbled ensured.ends _
+          c.finish-labels.ensures.made;
     }
 
 pub returns-clause-count : goal.returns-clause-count
@@ -83,10 +66,4 @@ returns-clause-count g c =
     let begins = rw c.replace-labels.ensures.value at c.new-begun.ensures in
     let ensured = c.garble_piece-table.ensures in
     rw (← c.self.view_is) (c.finish-labels.ensures.made
-    ∙ piece-made _ _ _ _ is begins c.plus-first.ensures _ ensured.garbled ensured.ends)
-
-pub returns-clause-rest : goal.returns-clause-rest
-returns-clause-rest g c = λ i past.
-    let finish = c.finish-labels.ensures in
-    finish.rest i past
-    ∙ c.garble_piece-table.ensures.rest i (omega (arith, past, finish.made))
+    ∙ piece-made is begins c.plus-first.ensures _ ensured.garbled ensured.ends)

@@ -1,4 +1,4 @@
-use Rattle.gc_half.proofs.Names.{◌≡◌, [], arith}
+use Rattle.std.proofs.Common.{◌≡◌, [], arith}
 use Rattle.gc_half.proofs.StreamingLemmas.{garbler-begun}
 use Rattle.gc_half.proofs.streaming_garbler.StreamingGarbler.begin.Goals as goal
 

@@ -1,13 +1,6 @@
-use Rattle.gc_half.proofs.Names.{◌≡◌, ◌∙◌, ap, slice_index}
-use Rattle.gc_half.specs.Streaming.{StreamingGarblerParts}
+use Rattle.gc_half.proofs.Names.{◌≡◌, ◌∙◌, ap, slice_index, StreamingGarblerParts}
 use Rattle.gc_half.proofs.PiecesLaw.{labels-table, outputs-same}
 use Rattle.gc_half.proofs.streaming_garbler.StreamingGarbler.output_zero_labels.Goals as goal
-
-pub output_labels-requires : goal.output_labels-requires
-output_labels-requires g c =
-    let labels : c.deref.result.now ≡ c.args.self.now.labels =
-    c.deref.ensures.value ∙ ap (λ (v : StreamingGarblerParts). v.labels) c.self.view_is in
-    rw labels c.requires.begun.so_far.wires
 
 pub returns-clause-labels : goal.returns-clause-labels
 returns-clause-labels g c = λ given rows is all garbled.

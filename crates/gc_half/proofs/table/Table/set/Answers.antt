@@ -18,40 +18,13 @@ returns g c =
       | then-i-len w ↦
           let filled = w.fill.new.items in
           let end = w.min-end.result in
-          let more : vec_len inside.filled ≤ end = omega (
-            arith,
-            w.if-i-len.true,
-            w.min-end.ensures,
-            w.saturating_add.ensures,
-            c.len.ensures,
-            fits,
-          ) in
-          let within : end ≤ inside.len = omega (arith, w.min-end.ensures) in
-          let there : c.args.i < length filled.items = omega (
-            arith,
-            w.fill.ensures.len,
-            filled.ok.0,
-            w.min-end.ensures,
-            w.saturating_add.ensures,
-            count,
-            c.requires,
-          ) in
-          subst P (sym w.self-inside-is)
-          (set_filled filled.items inside.unset (inside.len - vec_len filled) c.args.self.now
-          c.args.i c.args.entry there
-          (filled_up inside.filled.items filled.items c.args.self.now inside.unset
-          (vec_len inside.filled) end
-          (vec_len filled) inside.len more within w.fill.ensures.items w.fill.ensures.len
-          c.self.view_is))
+          let more : vec_len inside.filled ≤ end = omega (arith, w.saturating_add.ensures, fits) in
+          let there : c.args.i < length filled.items = omega (arith, w.fill.ensures, count) in
+          subst P (sym w.self-inside-is) (set_filled filled.items inside.unset _ _ _ _ there
+          (filled_up inside.filled.items filled.items _ _ _ end _ _ more (omega arith)
+          w.fill.ensures.items w.fill.ensures.len c.self.view_is))
       | else-i-len w ↦
-          let there : c.args.i < length inside.filled.items = omega (
-            arith,
-            w.if-i-len.false,
-            c.len.ensures,
-            inside.filled.ok.0,
-          ) in
+          let there : c.args.i < length inside.filled.items = omega arith in
           subst P (sym w.self-inside-is)
-          (set_filled inside.filled.items inside.unset (inside.len - vec_len inside.filled)
-          c.args.self.now c.args.i
-          c.args.entry there c.self.view_is)
+          (set_filled inside.filled.items inside.unset _ _ _ _ there c.self.view_is)
     ]

@@ -1,6 +1,4 @@
-use Rattle.gc_half.proofs.Names.{◌≡◌, ◌∙◌, ◌+◌, length, set, ap, arith}
-use Rattle.gc_half.specs.Hash.{hash, numbered_from}
-use Rattle.gc_half.specs.Waiting.{ZeroTableParts, rows_made}
+use Rattle.gc_half.proofs.Names.{◌≡◌, ◌∙◌, ◌+◌, length, set, ap, arith, hash, numbered_from, ZeroTableParts, rows_made}
 use Rattle.gc_half.proofs.OneGateLemmas.{free_gate, not_and}
 use Rattle.gc_half.proofs.zero_table.ZeroTable.step.Goals as goal
 
