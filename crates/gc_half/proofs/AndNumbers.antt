@@ -17,11 +17,8 @@ module _ (c : Netlist) where
   pub and_number-below : (i : ℕ) (g : Gate) → slice_get c.gates i ≡ Some g
       → is_and g.operation ≡ true → and_number c i < and_count c
   and_number-below i g at and =
-      omega (
-        arith,
-        and_number-and i g at and,
-        sum_by-take-le (λ (x : Gate). cond (is_and x.operation) 1 0) c.gates (suc i),
-      )
+      let next = and_number-and i g at and in
+      omega (arith, sum_by-take-le (λ (x : Gate). cond (is_and x.operation) 1 0) c.gates (suc i))
 
   -- All gates passed, all AND gates are counted.
   pub and_number-end : and_number c (length c.gates) ≡ and_count c

@@ -1,6 +1,5 @@
 -- Evaluating in file order, where no gate waits.
-use Rattle.gc_half.proofs.Names.{◌≡◌, ℕ, ◌+◌, ◌<◌, ◌∙◌, List, length, map, slice_get, slice_index, Some, refl, arith, Gate, Netlist, IsLawful, EachRead-map, and_number, and_count, RowPair, range_with_len, table_step, length-table, EachRead-below, active_rule, active_of, row_at, AreActiveFrom, CanStep, IsStep, hash, numbered_from, active_after}
-use Rattle.std.specs.List.{slice_set}
+use Rattle.gc_half.proofs.Names.{◌≡◌, ℕ, ◌+◌, ◌<◌, ◌∙◌, List, length, map, slice_get, slice_index, Some, refl, arith, Gate, Netlist, IsLawful, EachRead-map, and_number, and_count, RowPair, range_with_len, table_step, length-table, EachRead-below, active_rule, AreActiveFrom, CanStep, IsStep, hash, numbered_from, active_after}
 use Rattle.gc_half.proofs.AndNumbers.{and_number-below}
 use Rattle.gc_half.proofs.CircuitLaw.{active_local, active-start, active-end}
 
@@ -45,12 +44,8 @@ module _ {first : ℕ} {c : Netlist} {rows lane_rows : List RowPair} {inputs lab
       pub lane-next : {new_rows : List RowPair} {new : List ℕ}
           → IsStep h k g lane_rows labels new_rows new
           → IsLane first c rows inputs (n + 1) new_rows new
-      lane-next step =
-          let put : _ ≡ slice_set labels g.set (active_of h (slice_index labels) (and_number c n)
-          (row_at rows (and_number c n)) g.operation) =
-          step.label ∙ rw (is.rows_are, numbered) refl in
-          record {
-            rows_are = step.kept ∙ is.rows_are;
-            followed = put ∙ table_step (active_rule h c rows) (active_local h c rows) c lawful
-                (slice_index inputs) labels n g 0 _ is.followed at refl;
-          }
+      lane-next step = record {
+        rows_are = step.kept ∙ is.rows_are;
+        followed = step.label ∙ table_step (active_rule h c rows) (active_local h c rows) c lawful
+            (slice_index inputs) labels n g 0 _ is.followed at (rw (is.rows_are, numbered) refl);
+      }

@@ -3,7 +3,7 @@ use Rattle.gc_half.proofs.Names.{◌≡◌, ℕ, input_label_of, input_zero, add
 use Rattle.gc_half.proofs.AndNumbers.{and_number-le}
 use Rattle.gc_half.proofs.OneGateLemmas.{first_read-local, second_read-local}
 use Rattle.gc_half.proofs.GarblingLemmas.{zero_local, IsGarbling-same, rows-garbling}
-use Rattle.gc_half.proofs.RowLemmas.{rows_after-start, rows_after-next, length-rows_after, rows}
+use Rattle.gc_half.proofs.RowLemmas.{rows_after-start, rows_after-next, length-rows_after}
 use Rattle.gc_half.proofs.SetWires.{last_or_before, not_set_before}
 use Rattle.std.proofs.lemmas.List.{get_or-replicate}
 

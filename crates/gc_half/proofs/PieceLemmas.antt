@@ -66,11 +66,9 @@ module _ (r first : ℕ) (c : Netlist) (given : List ℕ) (before : List RowPair
       → IsPieceAfter r first c given before n t piece
       → length before + length piece ≡ and_number c n
   piece-count n t piece is =
-      omega (
-        arith,
-        count_rows (numbered_from first hash) r c given n t.labels (before ++ piece) is.garbled,
-        length-append before piece,
-      )
+      let count = count_rows (numbered_from first hash) r c given n t.labels (before ++ piece)
+      is.garbled in
+      omega (arith, length-append before piece)
 
   -- One more gate is garbled.
   pub piece-next : IsLawful c → (i : ℕ) (g : Gate) → slice_get c.gates i ≡ Some g
@@ -92,15 +90,10 @@ module _ (r first : ℕ) (c : Netlist) (given : List ℕ) (before : List RowPair
         offset = offset ∙ is.offset;
         numbered = numbered ∙ is.numbered;
         wires = long ∙ is.wires;
-        counted = omega (
-          arith,
-          count,
-          is.counted,
-          piece-count i old piece is,
-          count_rows h r c given (i + 1) new.labels (before ++ new_piece) garbled,
-          length-append before new_piece,
-          and_number-next c i g at,
-        );
+        counted =
+            let earlier = piece-count i old piece is in
+            let now = count_rows h r c given (i + 1) new.labels (before ++ new_piece) garbled in
+            omega (arith, length-append before new_piece, and_number-next c i g at);
         garbled = garbled;
         waiting = λ w unset.
             let yet = not_set_yet c w i g at unset in

@@ -7,13 +7,13 @@ use Rattle.gc_half.specs.Waiting.{with_waiting}
 
 module _ {T : Type 0} (label : T → ℕ) where
   -- A label may be put first, and the gates made then, where they set other wires.
-  pub with_waiting-put : (labels : List ℕ) (ws : List (WaitingGate T)) (wire new : ℕ)
+  pub with_waiting_put : (labels : List ℕ) (ws : List (WaitingGate T)) (wire new : ℕ)
       → NoneSets wire ws
       → with_waiting label (set labels wire new) ws ≡ set (with_waiting label labels ws) wire new
-  with_waiting-put labels [] wire new others = refl
-  with_waiting-put labels (x ∷ ws) wire new others =
+  with_waiting_put labels [] wire new others = refl
+  with_waiting_put labels (x ∷ ws) wire new others =
       ap (λ l. with_waiting label l ws) (set_comm labels wire x.set new (label x.gate) others.0)
-      ∙ with_waiting-put (set labels x.set (label x.gate)) ws wire new others.1
+      ∙ with_waiting_put (set labels x.set (label x.gate)) ws wire new others.1
 
   -- What an operation reads that reads no wire of theirs is there already.
   pub first_read-with_waiting : (labels : List ℕ) (ws : List (WaitingGate T)) (op : Operation)

@@ -167,6 +167,7 @@ impl<A: Allocator> ActiveTable<A> {
     }
 
     /// Gives a wire its label. The caller ensures that no gate that waits sets the same wire.
+    #[tactic(auto, using(crate::proofs::WaitingLemmas::with_waiting_put))]
     #[inline(always)]
     fn put(&mut self, wire: u32, label: Label)
         requires place { wire < length self.old.labels }

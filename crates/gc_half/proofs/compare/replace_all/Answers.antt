@@ -8,12 +8,8 @@ returns-clause-garbled g c = λ given begun.
     let end = c.loop-piece.garbler in
     let before = c.loop-piece.invariant in
     let whole : end.made ≡ and_count netlist = c.loop-piece-test.ensures.0 refl in
-    let is = rw (take_all end.made c.loop-piece.rows (omega (
-      arith,
-      whole,
-      c.requires.places,
-      c.loop-piece.auto.rows,
-    ))) at (before.so_far given begun) in
+    let is = rw (take_all end.made c.loop-piece.rows (omega (arith, whole)))
+    at (before.so_far given begun) in
     rw (c.into_labels.ensures, ← before.offset, ← before.numbered)
     (garbled-whole end.first end.offset netlist given c.law_lawful.ensures
     (λ w past. get_or_past given w 0 (omega (arith, is.inputs, past))) end.labels c.loop-piece.rows

@@ -40,12 +40,7 @@ loop-i-preserved g c =
             (omega (arith, count, before.left, before.few)));
       };
       few = omega (arith, before.few, c.in-Some.ensures);
-      left = omega (
-        arith,
-        before.left,
-        c.in-Some.ensures,
-        and_number-next netlist i gate at,
-      );
+      left = omega (arith, c.in-Some.ensures, and_number-next netlist i gate at);
     }
 
 pub returns-in_default-clause-ends : goal.returns-in_default-clause-ends

@@ -35,12 +35,7 @@ loop-i-preserved g c =
           step.labels step.rows step.counted step.waiting;
       rest = λ k past.
           step.rest k past ∙ c.loop-i.invariant.rest k (omega (arith, past, step.counted));
-      left = omega (
-        arith,
-        c.loop-i.invariant.left,
-        c.in-Some.ensures,
-        and_number-next netlist i c.gate-gate.result at,
-      );
+      left = omega (arith, c.in-Some.ensures, and_number-next netlist i c.gate-gate.result at);
     }
 
 pub returns-in_default-clause-ends : goal.returns-in_default-clause-ends
@@ -51,6 +46,5 @@ returns-in_default-clause-ends g c =
 
 pub returns-clause-garbled : goal.returns-clause-garbled
 returns-clause-garbled g c =
-    let ends : c.loop-i.i ≡ c.gates.result =
-    omega (arith, c.requires.gates, c.gates-i-end.ensures.count, c.gates.ensures.count) in
+    let ends : c.loop-i.i ≡ c.gates.result = omega arith in
     rw (← ends) c.loop-i.invariant.garbled

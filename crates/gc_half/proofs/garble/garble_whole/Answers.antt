@@ -1,4 +1,4 @@
-use Rattle.gc_half.proofs.Names.{[], sym, ◌∙◌, take_all, arith, length, ◌≤◌}
+use Rattle.std.proofs.Common.{[], sym, ◌∙◌, take_all, arith, length, ◌≤◌}
 use Rattle.gc_half.proofs.StreamingLemmas.{ands-few, whole-begun, whole-made, whole-garbled}
 use Rattle.gc_half.proofs.garble.garble_whole.Goals as goal
 
