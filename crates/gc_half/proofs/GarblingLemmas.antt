@@ -1,10 +1,10 @@
 -- Each lawful circuit has one garbling for any zero labels of the input wires.
-use Rattle.gc_half.proofs.Names.{◌≡◌, ℕ, List, length, slice_get, Some, inl, inr, refl, sym, ◌∙◌, take_all, arith, slice_get_within, Gate, Netlist, IsLawful, IsSet, IsSetBefore, EachRead, and_count, Solves, IsLocal, agree, solution_solves, EachRead-map, IsSetBefore-more, RowPair, zero_rule, IsGarbling, rows_after, hash}
+use Rattle.gc_half.proofs.Names.{◌≡◌, ℕ, List, length, slice_get, Some, inl, inr, refl, sym, ◌∙◌, take_all, arith, slice_get_within, Gate, Netlist, IsLawful, IsSet, IsSetBefore, EachRead, and_count, Solves, IsLocal, agree, solution_solves, EachRead-map, IsSetBefore-more, RowPair, zero_rule, IsGarbling, rows_after}
 use Rattle.gc_half.specs.Law.{HasOneGarbling, HasOneEvaluation}
 use Rattle.gc_half.proofs.AndNumbers.{and_number-end}
 use Rattle.gc_half.proofs.OneGateLemmas.{first_read-local, second_read-local}
 use Rattle.gc_half.proofs.CircuitLaw.{active_local}
-use Rattle.gc_half.proofs.RowLemmas.{length-rows_after, rows_after-at, rows-take, rows}
+use Rattle.gc_half.proofs.RowLemmas.{length-rows_after, rows_after-at, rows-take}
 
 module _ (hash : ℕ → ℕ → ℕ) (r : ℕ) where
   -- The zero label of the wire that a gate sets looks at the wires that it reads alone.

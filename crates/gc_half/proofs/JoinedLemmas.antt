@@ -1,5 +1,5 @@
 -- The laws of circuits that follow one another, from the law of one circuit.
-use Rattle.gc_half.proofs.Names.{◌≡◌, ℕ, ◌+◌, ◌-◌, ◌<◌, Bool, List, Option, Some, refl, ◌∙◌, arith, Netlist, input_wires, output_wires, IsLawful, RowPair, None, IsEvaluation, encode, Decodes, numbered_from, hash}
+use Rattle.gc_half.proofs.Names.{◌≡◌, ℕ, ◌+◌, ◌-◌, ◌<◌, Bool, List, Option, Some, refl, ◌∙◌, arith, Netlist, input_wires, output_wires, IsLawful, RowPair, None, IsEvaluation, encode, Decodes, numbered_from}
 use Rattle.gc_half.specs.Joined.{of_output, taken, FollowingLaw, JoinedLaw}
 use Rattle.gc_half.proofs.CircuitLaw.{garbling-decodes}
 
@@ -42,8 +42,7 @@ following-decodes hash r odd before lawful_before zero_before active_before bits
 
 pub joined-decodes : JoinedLaw
 joined-decodes hash r odd before lawful_before first_before given zero_before rows_before
-    garbling_before input_bits bits_before assignment_before active_before evaluation_before c
-    lawful
+    garbling_before input_bits bits_before assignment_before active_before evaluation_before c lawful
     joint is_joint first own zero_label rows garbling own_bits bits assignment active evaluation =
     let decodes = garbling-decodes (numbered_from first_before hash) r odd before lawful_before
     given zero_before rows_before garbling_before input_bits bits_before assignment_before

@@ -31,16 +31,9 @@ labels-stand r odd c lawful zero_labels first g is bits fits inputs stand labels
         count = rw (evaluated.last, are.last) (simp length-map);
         each = λ i below.
             let inside : i < output_wires c = omega (arith, below, many) in
-            rw (
-              evaluated.last,
-              zero_are,
-              are.last,
-              at-output c evaluated.active 0 i inside,
-              at-output c (slice_index g.zero_labels) 0 i inside,
-              at-output c are.bits false i inside,
-            )
+            rw (evaluated.last, zero_are, are.last) (simp at-output
             (decodes.labels _ (lawful.outputs_set _ (omega (arith, lawful.outputs_fit))
-            (omega (arith, lawful.outputs_fit, inside))));
+            (omega (arith, lawful.outputs_fit, inside)))));
       },
       rw (evaluated.last, zero_are) (decodes.outputs ∙ sym are.last),
     )

@@ -19,14 +19,14 @@ module _ (c : Netlist) where
       (λ (x : Gate). cond (is_and x.operation) 1 0) c.gates i g (slice_get_within c.gates i g at))
 
   -- A piece ends before an AND gate for which none is left.
-  pub ends-before : (from count left i : ℕ) → left + and_number c i ≡ count + and_number c from
-      → (g : Gate) → slice_get c.gates i ≡ Some g → is_and g.operation ≡ true → left ≡ 0
+  pub ends-before : {from count left i : ℕ} → left + and_number c i ≡ count + and_number c from
+      → {g : Gate} → slice_get c.gates i ≡ Some g → is_and g.operation ≡ true → left ≡ 0
       → from ≤ i → EndsPiece c from count i
-  ends-before from count left i counted g at and none later =
-      let below = and_number-below c i g at and in
+  ends-before counted at and none later =
+      let below = and_number-below c _ _ at and in
       record {
         later = later;
-        gates = omega (arith, slice_get_within c.gates i g at);
+        gates = omega (arith, slice_get_within c.gates _ _ at);
         number = omega (arith, below);
         whole = λ all. absurd (omega (arith, below));
       }

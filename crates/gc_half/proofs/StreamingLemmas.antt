@@ -16,12 +16,9 @@ module _ (c : Netlist) (lawful : IsLawful c) (given labels : List ℕ)
     (are : labels ≡ map (slice_index given) (range_with_len 0 c.wires)) where
   -- A label of each wire, from those of the input wires.
   pub padded : (w : ℕ) → slice_index labels w ≡ slice_index given w
-  padded w = elim (cases_lt w c.wires) [
-    | inl inside ↦ rw are (read-table (slice_index given) c.wires w 0 inside)
-    | inr past ↦
-        get_or_past labels w 0 (omega (arith, length-table _ c.wires labels are, past))
-        ∙ sym (get_or_past given w 0 (omega (arith, fits, lawful.inputs_fit, past)))
-  ]
+  padded w =
+      let long = length-table _ c.wires labels are in
+      grind (arith, get_or_past, read-table, lawful.inputs_fit)
 
   -- The other wires have 0.
   pub padded-others : (w : ℕ) → input_wires c ≤ w → slice_index labels w ≡ 0

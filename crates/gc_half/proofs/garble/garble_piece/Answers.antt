@@ -40,9 +40,8 @@ loop-i-preserved g c =
 
 pub returns-in_default-clause-ends : goal.returns-in_default-clause-ends
 returns-in_default-clause-ends g c =
-    ends-before c.args.circuit.now _ _ _ _ c.loop-i.invariant.left c.gate-gate.result
-    c.gate-gate.ensures c.in_default.ensures.0 c.in_default.ensures.1
-    (omega (arith, c.loop-i.auto.i))
+    ends-before c.args.circuit.now c.loop-i.invariant.left c.gate-gate.ensures
+    c.in_default.ensures.0 c.in_default.ensures.1 (omega (arith, c.loop-i.auto.i))
 
 pub returns-clause-garbled : goal.returns-clause-garbled
 returns-clause-garbled g c =
