@@ -1,5 +1,5 @@
 -- Garbling in file order: the table of zero labels and the row pairs, gate after gate.
-use Rattle.gc_half.proofs.Names.{◌≡◌, ℕ, input_label_of, input_zero, add-one, if◌then◌else◌, ◌==◌, ◌+◌, ◌-◌, ◌<◌, ◌≤◌, ◌++◌, inl, ⊎_elim, List, [], length, map, set, get_or-set_same, get_or-set_other, replicate, slice_get, slice_index, Some, take, refl, sym, ◌∙◌, arith, nat_tests, slice_get_within, Gate, Netlist, input_wires, output_wires, IsLawful, IsSet, IsSetBy, IsSetBefore, EachRead, and_number, put, EachRead-map, after-keeps, solution_solves, RowPair, first_read, second_read, gate_rows, zero_of, IsGarbling, rows_after, with_row_pair, range_with_len, cases_lt, get_or_past, take_all, values_after, read-table, length-table, table_padded, IsSetBefore-below, IsGarbledFrom, AreGarbled, label_of, hash, numbered_from, IsOneGateMore, common_steps}
+use Rattle.gc_half.proofs.Names.{◌≡◌, ℕ, input_label_of, input_zero, add-one, if◌then◌else◌, ◌==◌, ◌+◌, ◌-◌, ◌<◌, ◌≤◌, ◌++◌, inl, ⊎_elim, List, [], length, map, set, get_or-set_same, get_or-set_other, replicate, slice_get, slice_index, Some, take, refl, sym, ◌∙◌, arith, nat_tests, slice_get_within, Gate, Netlist, input_wires, output_wires, IsLawful, IsSetBy, IsSetBefore, EachRead, and_number, put, EachRead-map, after-keeps, solution_solves, RowPair, zero_of, range_with_len, cases_lt, get_or_past, take_all, values_after, read-table, length-table, table_padded, IsSetBefore-below, IsGarbledFrom, AreGarbled, label_of, hash, numbered_from, IsOneGateMore, common_steps}
 use Rattle.gc_half.proofs.AndNumbers.{and_number-le}
 use Rattle.gc_half.proofs.OneGateLemmas.{first_read-local, second_read-local}
 use Rattle.gc_half.proofs.GarblingLemmas.{zero_local, IsGarbling-same, rows-garbling}
@@ -40,74 +40,40 @@ module _ (h : ℕ → ℕ → ℕ) (r : ℕ) (c : Netlist) (given : List ℕ) wh
         row_pairs = sym (rows_after-start h r c (label_of h r c given));
       }
 
-  module _ (lawful : IsLawful c) where
-    -- One more gate: its label is put where it belongs, and its row pair is pushed.
-    pub garbled-next : (i : ℕ) (g : Gate) → slice_get c.gates i ≡ Some g
-        → (labels new : List ℕ) (rows new_rows : List RowPair)
-        → AreGarbled h r c given i labels rows
-        → ((w : ℕ) → slice_index new w ≡ put (slice_index labels) g.set
-        (zero_of h r (slice_index labels) (length rows) g.operation) w)
-        → g.set < length new → length labels ≤ length new → length new ≤ c.wires
-        → new_rows ≡ with_row_pair rows (gate_rows h r (length rows) g.operation
-        (first_read (slice_index labels) g.operation)
-        (second_read (slice_index labels) g.operation))
-        → AreGarbled h r c given (i + 1) new new_rows
-    unfolding values_after label_of
-    garbled-next i g at labels new rows new_rows are puts set kept few pushed =
-        record {
-          few = few;
-          there = λ w before. ⊎_elim (λ earlier. omega (arith, are.there w earlier))
-              (λ (by : IsSetBy c w i). let s : g.set ≡ w = cc (by.at, by.wire) in omega arith)
-              (last_or_before c w i (rw add-one at before));
-          right = λ w. rw (puts w, add-one, at) (λ t. if w == g.set
-              then zero_of h r (λ v. are.right v t) (number t) g.operation
-              else are.right w t);
-          row_pairs = rw (
-            pushed,
-            number,
-            are.row_pairs,
-            first_read-local _ _ g.operation same,
-            second_read-local _ _ g.operation same,
-            add-one,
-            rows_after-next h r c (label_of h r c given) i g at,
-          ) refl;
-        }
-      where
-        number : length rows ≡ and_number c i
-        number = rw are.row_pairs (length-rows_after h _ c _ i)
+  -- One more gate.
+  pub garbled-next : IsLawful c → (i : ℕ) (g : Gate) → slice_get c.gates i ≡ Some g
+      → (labels new : List ℕ) (rows new_rows : List RowPair)
+      → AreGarbled h r c given i labels rows
+      → IsOneGateMore h r c.wires g labels rows new new_rows
+      → AreGarbled h r c given (i + 1) new new_rows
+  unfolding values_after label_of
+  garbled-next lawful i g at labels new rows new_rows are more =
+      record {
+        few = more.few;
+        there = λ w before. ⊎_elim (λ earlier. omega (arith, are.there w earlier))
+            (λ (by : IsSetBy c w i). let s : g.set ≡ w = cc (by.at, by.wire) in omega arith)
+            (last_or_before c w i (rw add-one at before));
+        right = λ w. rw (more.label w, add-one, at) (λ t. if w == g.set
+            then zero_of h r (λ v. are.right v t) (number t) g.operation
+            else are.right w t);
+        row_pairs = rw (
+          more.row_pairs,
+          number,
+          are.row_pairs,
+          first_read-local _ _ g.operation same,
+          second_read-local _ _ g.operation same,
+          add-one,
+          rows_after-next h r c (label_of h r c given) i g at,
+        ) refl;
+      }
+    where
+      number : length rows ≡ and_number c i
+      number = rw are.row_pairs (length-rows_after h _ c _ i)
 
-        same : EachRead (λ w. slice_index labels w ≡ (label_of h r c given) w) g.operation
-        same = EachRead-map (IsSetBefore c i) _ g.operation (λ w set. are.right w
-            ∙ sym (after-keeps _ (zero_local h r c) c lawful _ i _ w
-            (omega (arith, slice_get_within c.gates i g at)) set)) (lawful.reads i g at)
-
-    -- The same, of a step of garblings side by side.
-    pub garbled-step : {i : ℕ} {g : Gate} → slice_get c.gates i ≡ Some g
-        → {labels new : List ℕ} {rows new_rows : List RowPair} {o wires : ℕ}
-        → AreGarbled h r c given i labels rows → o ≡ r → wires ≡ c.wires
-        → IsOneGateMore h o wires g labels rows new new_rows
-        → AreGarbled h r c given (i + 1) new new_rows
-    garbled-step at are same wires_is more =
-        let more = rw same at more in
-        garbled-next _ _ at _ _ _ _ are more.label more.there more.kept
-        (omega (arith, more.few, wires_is)) more.row_pairs
-
-    -- The labels on the wires and their rows are a garbling.
-    labels-garbling : IsGarbling h r c (slice_index given) (label_of h r c given)
-        (rows_after h r c (label_of h r c given) (length c.gates))
-    unfolding label_of
-    labels-garbling =
-        rows-garbling h r c lawful (slice_index given) _
-        (solution_solves _ (zero_local h r c) c lawful (slice_index given))
-
-    -- A wire that is not set has the label 0.
-    label_of-not_set : ((w : ℕ) → input_wires c ≤ w → slice_index given w ≡ 0)
-        → (w : ℕ) → ¬ IsSet c w → (label_of h r c given) w ≡ 0
-    unfolding label_of
-    label_of-not_set others w unset =
-        not_set_before _ c (slice_index given) w (length c.gates) unset
-        ∙ ⊎_elim (λ input. absurd (unset (inl input))) (λ past. others w past)
-        (cases_lt w (input_wires c))
+      same : EachRead (λ w. slice_index labels w ≡ (label_of h r c given) w) g.operation
+      same = EachRead-map (IsSetBefore c i) _ g.operation (λ w set. are.right w
+          ∙ sym (after-keeps _ (zero_local h r c) c lawful _ i _ w
+          (omega (arith, slice_get_within c.gates i g at)) set)) (lawful.reads i g at)
 
 -- After the last gate a table of all wires and the row pairs are the garbling.
 pub garbled-whole : (first r : ℕ) (c : Netlist) (given : List ℕ) → IsLawful c
@@ -121,10 +87,11 @@ garbled-whole first r c given lawful others labels rows long are =
     let h = numbered_from first hash in
     record {
       garbling = rw are.row_pairs (IsGarbling-same h r c lawful _ _ _ _ (λ w set. sym (are.right w))
-          (labels-garbling h r c given lawful));
+          (rows-garbling h r c lawful _ _ (solution_solves _ (zero_local h r c) c lawful _)));
       wires = long;
       not_set = λ w below unset.
-          are.right w ∙ label_of-not_set h r c given lawful others w unset;
+          are.right w ∙ not_set_before _ c (slice_index given) w (length c.gates) unset
+          ∙ ⊎_elim (λ input. absurd (unset (inl input))) (others w) (cases_lt w (input_wires c));
       outputs = refl;
     }
 

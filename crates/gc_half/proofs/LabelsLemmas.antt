@@ -1,5 +1,5 @@
 -- The law of labels: lists that stand for bits, from the law of a garbled circuit.
-use Rattle.gc_half.proofs.Names.{◌≡◌, ℕ, ◌+◌, ◌-◌, ◌<◌, length, map, drop, get_or, slice_index, refl, sym, ap, ◌∙◌, arith, Netlist, output_wires, IsLawful, GarblingParts, false, length-map, common_steps, range_with_len, fill_by_all, length-map-range_with_len, get_or-map-range_with_len, on_outputs, table_end, IsGarbledFrom, hash, numbered_from, Decodes, output_zero_labels}
+use Rattle.gc_half.proofs.Names.{◌≡◌, ℕ, ◌+◌, ◌-◌, ◌<◌, length, map, drop, get_or, slice_index, refl, sym, ap, ◌∙◌, arith, Netlist, output_wires, IsLawful, GarblingParts, length-map, common_steps, range_with_len, fill_by_all, length-map-range_with_len, get_or-map-range_with_len, on_outputs, table_end, IsGarbledFrom, hash, numbered_from, Decodes, output_zero_labels}
 use Rattle.gc_half.specs.Joined.{LabelsLaw, TogetherLaw}
 use Rattle.gc_half.proofs.CircuitLaw.{garbling-decodes}
 use Rattle.gc_half.proofs.JoinedLemmas.{evaluation-same}

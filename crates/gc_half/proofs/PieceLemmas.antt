@@ -134,13 +134,15 @@ module _ (r first : ℕ) (c : Netlist) (given : List ℕ) (before : List RowPair
       garbled : AreGarbled h r c given (i + 1) new.labels (before ++ new_piece)
       garbled =
           garbled-next h r c given lawful i g at old.labels new.labels (before ++ piece)
-          (before ++ new_piece) is.garbled
-          (λ w. rw labels (set-put old.labels (slice_index old.labels) g.set _ _
-          (omega (arith, lawful.sets i g at, is.wires)) (λ v. refl) zero-later w))
-          (omega (arith, lawful.sets i g at, long, is.wires)) (omega (arith, long))
-          (omega (arith, long, is.wires))
-          (ap (λ l. before ++ l) pushed ∙ with_row_pair-later before piece _
-          ∙ ap (with_row_pair (before ++ piece)) rows-later)
+          (before ++ new_piece) is.garbled (record {
+            label = λ w. rw labels (set-put old.labels (slice_index old.labels) g.set _ _
+                (omega (arith, lawful.sets i g at, is.wires)) (λ v. refl) zero-later w);
+            there = omega (arith, lawful.sets i g at, long, is.wires);
+            kept = omega (arith, long);
+            few = omega (arith, long, is.wires);
+            row_pairs = ap (λ l. before ++ l) pushed ∙ with_row_pair-later before piece _
+                ∙ ap (with_row_pair (before ++ piece)) rows-later;
+          })
 
 -- AND gate k of a piece is evaluated as AND gate m + k of the circuit, where m row pairs came before the piece.
 row-later : (before rows : List RowPair) (m k : ℕ) → length before ≡ m

@@ -1,5 +1,5 @@
 -- A garbler and an evaluator from piece to piece.
-use Rattle.gc_half.proofs.Names.{◌≡◌, ℕ, ◌+◌, ◌-◌, ◌≤◌, ◌^◌, ◌++◌, [], inl, inr, List, length, map, slice_index, refl, sym, ap, ◌∙◌, arith, nat_tests, Netlist, IsLawful, and_number, and_count, input_wires, output_wires, input_label_of, input_zero, RowPair, min, range_with_len, length-append, cases_lt, append-nil, get_or_past, values_after, read-table, length-table, IsSetBefore-below, IsGarbledFrom, hash, numbered_from, ZeroTableParts, rows_made, IsPieceAfter, GarblesOn, EndsPiece, StreamingGarblerParts, IsGarbledSoFar, IsEvaluatedSoFar, input_labels, IsGarbled, offset_of, GarblingParts}
+use Rattle.gc_half.proofs.Names.{◌≡◌, ℕ, ◌+◌, ◌-◌, ◌≤◌, ◌^◌, ◌++◌, [], List, length, map, slice_index, refl, sym, ap, ◌∙◌, arith, nat_tests, Netlist, IsLawful, and_number, and_count, input_wires, output_wires, input_label_of, input_zero, RowPair, min, range_with_len, length-append, append-nil, get_or_past, values_after, read-table, length-table, IsSetBefore-below, IsGarbledFrom, hash, numbered_from, ZeroTableParts, rows_made, IsPieceAfter, GarblesOn, EndsPiece, StreamingGarblerParts, IsGarbledSoFar, IsEvaluatedSoFar, input_labels, IsGarbled, offset_of, GarblingParts}
 use Rattle.gc_half.proofs.AndNumbers.{and_number-le, and_number-end}
 use Rattle.gc_half.proofs.GarbleLemmas.{count_rows, garbled-start, garbled-whole}
 use Rattle.gc_half.proofs.PieceLemmas.{and_number-few, piece-count}

@@ -1,5 +1,5 @@
 use Rattle.gc_half.proofs.Names.{◌≡◌, ◌∙◌, length, refl, sym, arith, EachRead-map, hash, numbered_from}
-use Rattle.gc_half.proofs.GarbleLemmas.{few_rows, count_rows, garbled-start, garbled-step, garbled-end}
+use Rattle.gc_half.proofs.GarbleLemmas.{few_rows, count_rows, garbled-start, garbled-end, garbled-next}
 use Rattle.gc_half.proofs.two.garble_both.Goals as goal
 
 pub loop-i-init : goal.loop-i-init
@@ -41,8 +41,10 @@ loop-i-preserved g c =
     record {
       offset = step.offset ∙ before.offset;
       other_offset = step.other_offset ∙ before.other_offset;
-      one = garbled-step _ _ _ _ lawful at before.one before.offset wires step.one;
-      other = garbled-step _ _ _ _ lawful at before.other before.other_offset wires step.other;
+      one = garbled-next _ _ _ _ lawful _ _ at _ _ _ _ before.one
+          (rw (before.offset, wires) at step.one);
+      other = garbled-next _ _ _ _ lawful _ _ at _ _ _ _ before.other
+          (rw (before.other_offset, wires) at step.other);
     }
 
 pub returns : goal.returns
