@@ -1,5 +1,5 @@
 -- A table that is filled in part.
-use Rattle.std.proofs.Common.{◌≡◌, ℕ, ◌+◌, ◌-◌, ◌<◌, ◌≤◌, List, ◌++◌, length, set, replicate, sym, ap, ◌∙◌, arith, length-append, append_assoc}
+use Rattle.std.proofs.Common.{◌≡◌, ℕ, ◌+◌, ◌-◌, ◌<◌, ◌≤◌, List, ◌++◌, length, set, replicate, refl, sym, ap, ◌∙◌, arith, length-append, append_assoc}
 use Rattle.std.proofs.Math.ListN.{length-replicate}
 use Rattle.std.proofs.lemmas.List.{replicate-append-replicate, set-append_left}
 
@@ -8,10 +8,8 @@ module _ {T : Type 0} (xs : List T) (u : T) where
   pub filled_further : (n m len : ℕ) → n ≤ m → m ≤ len
       → (xs ++ replicate (m - n) u) ++ replicate (len - m) u ≡ xs ++ replicate (len - n) u
   filled_further n m len more within =
-      append_assoc xs (replicate (m - n) u) (replicate (len - m) u)
-      ∙ ap (λ l. xs ++ l) (replicate-append-replicate (m - n) (len - m) u)
-      ∙ ap (λ k. xs ++ replicate k u) (let z : (m - n) + (len - m) ≡ len - n =
-      omega (arith, more, within) in z)
+      let sum : (m - n) + (len - m) ≡ len - n = omega arith in
+      rw (append_assoc, replicate-append-replicate, sum) refl
 
   -- an entry that is set among those filled is set in the table
   pub set_filled : (rest : ℕ) (all : List T) (i : ℕ) (entry : T) → i < length xs
@@ -25,9 +23,7 @@ pub filled_up : {T : Type 0} (xs ys all : List T) (u : T) (n m k len : ℕ) → 
     → ys ≡ xs ++ replicate (m - n) u → k ≡ m → xs ++ replicate (len - n) u ≡ all
     → ys ++ replicate (len - k) u ≡ all
 filled_up xs ys all u n m k len more within ys_are k_is is =
-    ap (λ l. l ++ replicate (len - k) u) ys_are
-    ∙ ap (λ j. (xs ++ replicate (m - n) u) ++ replicate (len - j) u) k_is
-    ∙ filled_further xs u n m len more within ∙ is
+    rw (ys_are, k_is, filled_further xs u n m len more within) is
 
 -- the table has as many entries as it was opened for
 pub filled_length : {T : Type 0} (xs all : List T) (u : T) (n len : ℕ) → n ≡ length xs → n ≤ len

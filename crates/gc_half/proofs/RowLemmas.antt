@@ -1,5 +1,5 @@
 -- The row pairs of a garbling, gate after gate.
-use Rattle.gc_half.proofs.Names.{◌≡◌, ℕ, zero, suc, ◌+◌, ◌<◌, ◌⊎◌, ◌++◌, inl, inr, List, [], ◌∷◌, length, take, take_all, slice_get, Some, refl, sym, ap, arith, gets, slice_get_cases, Operation, And, Gate, Netlist, and_number, RowPair, rows_of, IsGarbling, with_operation, cases_eq, common_steps, rows_after, hash}
+use Rattle.gc_half.proofs.Names.{◌≡◌, ℕ, zero, suc, ◌+◌, ◌<◌, ◌⊎◌, ◌++◌, inl, inr, List, [], ◌∷◌, length, take, take_all, slice_get, Some, refl, sym, ap, arith, gets, slice_get_cases, Operation, And, Gate, Netlist, and_number, RowPair, rows_of, IsGarbling, with_operation, cases_eq, common_steps, rows_after}
 use Rattle.gc_half.proofs.AndNumbers.{and_number-and, and_number-other}
 
 pub slice_get-push : {X : Type 0} (xs : List X) (x : X)

@@ -1,5 +1,4 @@
 use Rattle.gc_half.proofs.Names.{arith, common_steps, table_padded}
-use Rattle.gc_half.proofs.StreamingLemmas.{padded}
 use Rattle.gc_half.proofs.labels.padded_labels.Goals as goal
 
 pub returns : goal.returns

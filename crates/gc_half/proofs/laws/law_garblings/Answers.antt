@@ -1,6 +1,5 @@
 use Rattle.gc_half.proofs.GarblingLemmas.{one_garbling, one_evaluation}
 use Rattle.gc_half.proofs.CanonicalLemmas.{one_garbled}
-use Rattle.gc_half.specs.Hash.{hash}
 use Rattle.gc_half.proofs.laws.law_garblings.Goals as goal
 
 pub returns : goal.returns
