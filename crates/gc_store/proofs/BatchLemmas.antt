@@ -1,5 +1,5 @@
 -- Batches of tasks: a task is put in or taken out, several are claimed into one, and finished.
-use Rattle.gc_store.proofs.Names.{◌≡◌, ◌≢◌, List, [], ◌∷◌, ◌++◌, map, Option, Some, None, MatchOption, refl, ap, arith, ℕ, ◌+◌, Bool, length, length-append, append_assoc, Ok, take, slice_get, inr, map_push, take_more, slice_get_within, get_or_from_slice_get, Task, Content, Claims, ClaimsAll, ClaimsSome, Finishes, FinishesEach}
+use Rattle.gc_store.proofs.Names.{◌≡◌, ◌≢◌, List, [], ◌∷◌, ◌++◌, map, Option, Some, None, MatchOption, refl, arith, ℕ, ◌+◌, Bool, length, length-append, append_assoc, Ok, take, slice_get, inr, map_push, take_more, slice_get_within, get_or_from_slice_get, Task, Content, Claims, ClaimsAll, ClaimsSome, Finishes, FinishesEach}
 use Rattle.gc_store.specs.Batch.{tasks_of}
 
 -- places that all have a task
@@ -9,8 +9,7 @@ AreAll places = places ≡ map Some (tasks_of places)
 pub tasks_of-more : (places : List (Option Task)) (task : Task)
     → tasks_of (places ++ Some task ∷ []) ≡ tasks_of places ++ task ∷ []
 tasks_of-more [] task = refl
-tasks_of-more (None ∷ places) task = tasks_of-more places task
-tasks_of-more (Some first ∷ places) task = ap (λ l. first ∷ l) (tasks_of-more places task)
+tasks_of-more (place ∷ places) task = grind (arith, tasks_of-more places task)
 
 pub all-more : (places : List (Option Task)) (task : Task) → AreAll places
     → AreAll (places ++ Some task ∷ [])
@@ -24,12 +23,9 @@ not_none places (task ∷ tasks) is = cc
 -- once the last of such places is taken out all others have a task, as it does
 all-less : (places : List (Option Task)) (last : Option Task) → AreAll (places ++ last ∷ [])
     → AreAll places × (last ≢ None)
-all-less [] None all = cc
-all-less [] (Some task) all = (refl, λ none. let z : ⊥ = cc in z)
+all-less [] last all = grind arith
 all-less (None ∷ places) last all = absurd (not_none _ _ all)
-all-less (Some task ∷ places) last all =
-    let rest = all-less places last (let e : AreAll (places ++ last ∷ []) = cc in e) in
-    (ap (λ l. Some task ∷ l) rest.0, rest.1)
+all-less (Some task ∷ places) last all = grind (arith, all-less places last)
 
 module _ (places old : List (Option Task)) (last : Option Task)
     (was : old ≡ places ++ last ∷ []) (all : AreAll old) where

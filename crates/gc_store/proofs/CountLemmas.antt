@@ -1,20 +1,16 @@
 -- How many gates are finished, after a step.
-use Rattle.gc_store.proofs.Names.{◌≡◌, ◌+◌, List, [], ◌∷◌, Bool, Option, Some, None, Ok, count_by, map, refl, ◌∙◌, arith, Task, sealed_zero_label, sealed_rows, State, Free, Claimed, Finished, Content, is_finished, Claims, ClaimsAll, Finishes, reopened, count_by-set, count_by-set_more, count_by-map}
+use Rattle.gc_store.proofs.Names.{◌≡◌, ◌+◌, List, [], ◌∷◌, Bool, Option, Some, Ok, count_by, map, refl, ◌∙◌, arith, Task, State, Content, is_finished, Claims, ClaimsAll, Finishes, reopened, count_by-set, count_by-set_more, count_by-map}
 
 -- A claim finishes none.
 pub claims-count : (old new : Content) (answer : Option Task) → Claims old answer new
     → count_by is_finished new.states ≡ count_by is_finished old.states
-claims-count old new None step = rw step.1 refl
-claims-count old new (Some task) step =
-    rw step.2 (count_by-set is_finished old.states task.gate Free Claimed step.0.free refl)
+claims-count old new answer step = grind (arith, count_by-set)
 
 -- A task that is accepted finishes one gate.
 pub finishes-count : (old new : Content) (task : Task) (complete : Bool)
     → Finishes old task (Ok complete) new
     → count_by is_finished new.states ≡ count_by is_finished old.states + 1
-finishes-count old new task complete step =
-    rw step.2 (count_by-set_more is_finished old.states task.gate Claimed
-    (Finished (sealed_zero_label task) (sealed_rows task)) step.0 refl refl)
+finishes-count old new task complete step = grind (arith, count_by-set_more)
 
 -- Nor do several.
 pub ClaimsAll-count : (old new : Content) (tasks : List Task) → ClaimsAll old tasks new

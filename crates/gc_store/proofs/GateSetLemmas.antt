@@ -1,14 +1,10 @@
 -- What putting a gate into a set of gates keeps of the set of its words.
-use Rattle.std.proofs.Common.{ℕ, ◌/◌, ◌≤◌, List, arith}
-use Rattle.std.proofs.lemmas.Bool.{cases_eq}
+use Rattle.gc_store.proofs.Names.{ℕ, ◌/◌, ◌≤◌, List, arith, cases_eq, Adds, IsGateSet}
 use Rattle.std.proofs.lemmas.Nat.Bits.{bit_at-zero}
-use Rattle.gc_workers.specs.NumberSet.{Adds}
-use Rattle.gc_store.specs.GateSet.{IsGateSet}
 
 module _ {words filled : List ℕ} {start : ℕ} (s : IsGateSet words filled start) where
   pub insert_keeps : {more over : List ℕ} (i first : ℕ) → Adds words i more
-      → Adds filled (i / 64) over → first ≤ start → first ≤ i / 64 / 64
-      → IsGateSet more over first
+      → Adds filled (i / 64) over → first ≤ start → first ≤ i / 64 / 64 → IsGateSet more over first
   insert_keeps i first added added_over low below = record {
     room = grind (arith, s.room, added.count, added_over.count);
     filled_at = λ k. grind (

@@ -1,15 +1,7 @@
 -- What taking, finishing, counting down, putting back and freeing gates keep of a queue.
-use Rattle.std.proofs.Common.{◌≡◌, ◌≢◌, ℕ, ◌+◌, ◌-◌, ◌*◌, ◌^◌, ◌<◌, ◌≤◌, List, length, map, set, get_or, slice_get, Some, replicate, sym, ◌∙◌, arith}
-use Rattle.std.proofs.lemmas.Grind.{common_steps}
-use Rattle.std.proofs.lemmas.List.{same_lists, length-map, get_or-map}
-use Rattle.std.proofs.lemmas.Option.{slice_get_within, slice_get-get_or, get_or_from_slice_get, gets}
-use Rattle.std.proofs.lemmas.List.Sums.{count_by-le-length}
-use Rattle.std.proofs.Math.ListN.{length-replicate}
-use Rattle.gc_store.specs.declared.gate_state.GateState.{GateState}
+use Rattle.gc_store.proofs.Names.{◌≡◌, ◌≢◌, ℕ, ◌+◌, ◌-◌, ◌*◌, ◌^◌, ◌<◌, ◌≤◌, List, length, map, set, get_or, slice_get, Some, replicate, arith, common_steps, same_lists, length-map, slice_get_within, slice_get-get_or, get_or_from_slice_get, gets, count_by-le-length, length-replicate, GateState, Has, Adds, Removes, GateProgress, is_busy, freed, with_mark, IsQueue, one_place, slice_get-replicate, count_by-set, count_by-set_more, count_by-set_less, count_by-replicate, count_by-some}
 use Rattle.gc_store.specs.declared.gate_state.GateState.TheVariants as mark
-use Rattle.gc_workers.specs.NumberSet.{Has, Adds, Removes}
-use Rattle.gc_store.specs.Queue.{GateProgress, is_busy, freed, with_mark, IsQueue}
-use Rattle.gc_half.proofs.ListLemmas.{one_place, slice_get-replicate, count_by-set, count_by-set_more, count_by-set_less, count_by-replicate, count_by-some}
+use Rattle.std.proofs.lemmas.List.{get_or-map}
 
 module _ {s : GateProgress} {queued : List ℕ} {busy : ℕ} (q : IsQueue s queued busy) where
   -- ---- counting down: what is read of a countdown that is not 0 is n
@@ -74,6 +66,5 @@ pub freed_all : (n : ℕ) (was now : List GateState) → n ≡ 0 → IsFreedFrom
 freed_all n was now end h =
     same_lists now (map freed was) (grind (arith, length-map, h.count)) (λ k d within.
     let inside : k < length was = omega (arith, within, h.count) in
-    get_or_from_slice_get now k _ d
-    (h.after k _ (omega (arith, end)) (slice_get-get_or was k d inside))
-    ∙ sym (get_or-map freed was k d d inside))
+    let at = slice_get-get_or was k d inside in
+    grind (arith, get_or_from_slice_get, h.after k, get_or-map freed was k d d))

@@ -1,15 +1,5 @@
 -- The reads of a circuit: linking them, and counting down the gates that read a wire.
-use Rattle.std.proofs.Common.{◌≡◌, ℕ, ◌+◌, ◌<◌, inl, inr, List, length, length-set, set, get_or, replicate, ◌∙◌, arith, ◌≢◌, ◌-◌, ◌*◌, ◌/◌, ◌≤◌, slice_get, Option, Some, ltb, ◌==◌, if◌then◌else◌, refl}
-use Rattle.std.proofs.Math.ListN.{length-replicate}
-use Rattle.std.proofs.lemmas.Bool.{cases_eq}
-use Rattle.std.proofs.lemmas.List.{get_or-set_same, get_or-set_other, get_or-replicate, get_or_read, get_or_past}
-use Rattle.std.proofs.lemmas.Option.{slice_get_within}
-use Rattle.std.proofs.lemmas.Bool.Decides.{nat_tests}
-use Rattle.gc_netlist.specs.Circuit.{Netlist, IsLawful, first_wire, second_wire}
-use Rattle.gc_netlist.proofs.Tables.{EachRead-below}
-use Rattle.gc_netlist.specs.declared.gate.Operation.{Operation}
-use Rattle.gc_netlist.specs.declared.gate.Gate.{Gate}
-use Rattle.gc_store.specs.Readers.{read_count, IsReadOf, IsNextRead, IsLinkedFrom, picked, reads_of}
+use Rattle.gc_store.proofs.Names.{◌≡◌, ℕ, ◌+◌, ◌<◌, inl, inr, List, length, length-set, set, get_or, replicate, ◌∙◌, arith, ◌≢◌, ◌-◌, ◌*◌, ◌/◌, ◌≤◌, slice_get, Option, Some, ltb, ◌==◌, if◌then◌else◌, refl, length-replicate, cases_eq, get_or-set_same, get_or-set_other, get_or-replicate, get_or_read, get_or_past, slice_get_within, nat_tests, Netlist, IsLawful, first_wire, second_wire, EachRead-below, Operation, Gate, read_count, IsReadOf, IsNextRead, IsLinkedFrom, picked, reads_of}
 
 -- a read is one of a circuit's reads,
 IsReadOf-within : (c : Netlist) (r w : ℕ) → IsReadOf c r w → r < read_count c
@@ -19,19 +9,10 @@ IsReadOf-within c r w is = grind (arith, is.which, slice_get_within)
 IsReadOf-same : (c : Netlist) (r v w : ℕ) → IsReadOf c r v → IsReadOf c r w → v ≡ w
 IsReadOf-same c r v w one two = grind (arith, one.which, two.which)
 
--- a wire that is read is a wire
-IsReadOf-wire : (c : Netlist) → IsLawful c → (r w : ℕ) → IsReadOf c r w → w < c.wires
-IsReadOf-wire c lawful r w is =
-    let each = EachRead-below c lawful is.place is.gate is.at in grind (arith, is.which)
-
 -- a wire without a read at place m has its next read from there on where it has it after m
 skipped : (c : Netlist) (w m n r : ℕ) → n ≡ m + 1 → ¬ IsReadOf c m w → IsNextRead c w n r
     → IsNextRead c w m r
 skipped c w m n r one not next = grind (arith, cases_eq, next.none_between)
-
--- a read is the next one from itself on
-next_itself : (c : Netlist) (w m : ℕ) → IsReadOf c m w → IsNextRead c w m m
-next_itself c w m is = grind (arith, IsReadOf-within c m w is)
 
 -- at first no read is linked
 pub unlinked : (c : Netlist) (reads wires : ℕ) (firsts nexts : List ℕ) → reads ≡ read_count c
@@ -56,14 +37,16 @@ module _ (c : Netlist) (lawful : IsLawful c) (m n : ℕ) (firsts nexts : List �
   pub link_wire : (w x : ℕ) → IsReadOf c m w → x ≡ get_or firsts w x
       → IsLinkedFrom c m (set firsts w m) (set nexts m x)
   link_wire w x read at =
-      let wire = IsReadOf-wire c lawful m w read in
+      let each = EachRead-below c lawful read.place read.gate read.at in
+      let wire : w < c.wires = grind (arith, read.which) in
       let inside : w < length firsts = omega (arith, linked.wires) in
       let within : m < length nexts = omega (arith, linked.reads, IsReadOf-within c m w read) in
       record {
         wires = length-set firsts w m ∙ linked.wires;
         reads = length-set nexts m x ∙ linked.reads;
         first = λ v below. elim (cases_eq v w) [
-          | inl same ↦ rw (same, get_or-set_same firsts w m 0 inside) (next_itself c w m read)
+          | inl same ↦ rw (same, get_or-set_same firsts w m 0 inside)
+              (grind (arith, IsReadOf-within c m w read))
           | inr other ↦ rw (get_or-set_other firsts w v m 0 other)
               (skipped c v m n (get_or firsts v 0) one (λ is. other (IsReadOf-same c m v w is read))
               (linked.first v below))
@@ -160,8 +143,7 @@ module _ (c : Netlist) (w : ℕ) where
     still_counted =
         let left = own_left c w r next is after in
         let sum = counted.counted is.place is.gate is.at in
-        let most = fits is.place is.gate is.at in
-        let gate : r / 2 ≡ is.place = grind arith in rw gate (omega arith)
+        grind (arith, left, sum, fits is.place is.gate is.at, is.which)
 
     -- and that comes to the next read
     pub counted_more : IsCounted c w next was (set now (r / 2) (get_or now (r / 2) 0 - 1))

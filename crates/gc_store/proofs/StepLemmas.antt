@@ -1,6 +1,5 @@
 -- What claiming, finishing and reopening gates keep, on contents.
-use Rattle.gc_store.proofs.Names.{◌≡◌, ◌≢◌, ℕ, suc, ◌*◌, ◌<◌, ◌↔◌, ◌⊎◌, inl, inr, List, length, length-set, map, set, slice_get, take, Option, Some, cond, true, count_by, refl, sym, ap, ◌∙◌, arith, position_or_len, cases_eq, cases_lt, length-map, take-take, slice_get_within, slice_get-get_or, slice_get-map, Gate, Netlist, EachRead, IsLawful, is_and, and_number, EachRead-map, RowPair, and_number-and, zero_label_of-gate, Task, task_of, sealed_zero_label, sealed_rows, State, Free, Claimed, Finished, Content, is_claimed, is_finished, has_rows, IsClaimed, IsFinished, IsKnown, IsReady, AllFinished, IsLawfulContent, reopened, with_sealed, one_place, slice_get-set_same, count_by-set, count_by-set_more, count_by-all, count_by-all_back, count_by-map, count_by-found, count_by-some}
-use Rattle.std.proofs.lemmas.List.Sums.{sum_by-take-le, passes_at_first}
+use Rattle.gc_store.proofs.Names.{◌≡◌, ◌≢◌, ℕ, suc, ◌*◌, ◌<◌, ◌↔◌, ◌⊎◌, inl, List, length, length-set, map, set, slice_get, take, Option, Some, cond, true, count_by, refl, sym, ap, ◌∙◌, arith, position_or_len, cases_eq, cases_lt, length-map, take-take, slice_get_within, slice_get-get_or, slice_get-map, Gate, Netlist, EachRead, IsLawful, is_and, and_number, EachRead-map, RowPair, and_number-and, zero_label_of-gate, Task, task_of, sealed_zero_label, sealed_rows, State, Free, Claimed, Finished, Content, is_claimed, is_finished, has_rows, IsClaimed, IsFinished, IsKnown, IsReady, AllFinished, IsLawfulContent, reopened, with_sealed, one_place, slice_get-set_same, count_by-set, count_by-set_more, count_by-all, count_by-all_back, count_by-map, count_by-found, count_by-some, sum_by-take-le, passes_at_first}
 use Rattle.gc_store.proofs.CountLemmas.{reopened-count}
 
 -- ---- two gates
@@ -8,21 +7,17 @@ use Rattle.gc_store.proofs.CountLemmas.{reopened-count}
 -- Gates at two places set two wires.
 pub set-apart : (c : Netlist) → IsLawful c → (i j : ℕ) (g h : Gate) → slice_get c.gates i ≡ Some g
     → slice_get c.gates j ≡ Some h → i ≢ j → g.set ≢ h.set
-set-apart c lawful i j g h at_i at_j apart same = elim (cases_lt i j) [
-  | inl below ↦
-      lawful.sets_once j h at_j (inr (i, below, record { gate = g; at = at_i; wire = same }))
-  | inr past ↦ lawful.sets_once i g at_i
-      (inr (j, omega arith, record { gate = h; at = at_j; wire = sym same }))
-]
+set-apart c lawful i j g h at_i at_j apart same =
+    grind (arith, cases_lt, lawful.sets_once i g at_i, lawful.sets_once j h at_j)
 
 -- A gate after an AND gate has a higher AND number,
 and_number-after : (c : Netlist) (i j : ℕ) (g : Gate) → slice_get c.gates i ≡ Some g
     → is_and g.operation ≡ true → i < j → and_number c i < and_number c j
 and_number-after c i j g at is below =
-    let front = take-take (suc i) j c.gates (omega arith) in
-    let rest = rw front at
-    (sum_by-take-le (λ (x : Gate). cond (is_and x.operation) 1 0) (take j c.gates) (suc i)) in
-    omega (arith, and_number-and c i g at is, rest)
+    let front = take-take (suc i) j c.gates in
+    let count = λ (x : Gate). cond (is_and x.operation) 1 0 in
+    let rest = sum_by-take-le count (take j c.gates) (suc i) in
+    grind (arith, front, and_number-and c i g at is, rest)
 
 -- so AND gates at two places have two AND numbers.
 pub and_number-apart : (c : Netlist) (i j : ℕ) (g h : Gate) → slice_get c.gates i ≡ Some g
@@ -38,14 +33,6 @@ abbrev pub Stays : List State → List State → Type 0
 Stays xs ys = (i label : ℕ) (rows : Option RowPair)
     → slice_get xs i ≡ Some (Finished label rows) → slice_get ys i ≡ Some (Finished label rows)
 
--- So what is known stays known.
-known-stays : (s : Content) (xs ys : List State) (m n : ℕ) → Stays xs ys → (w : ℕ)
-    → IsKnown (record s { states = xs; rows = m }) w
-    → IsKnown (record s { states = ys; rows = n }) w
-known-stays s xs ys m n stays w (inl input) = inl input
-known-stays s xs ys m n stays w (inr (i, by, f)) =
-    inr (i, by, record { label = f.label; rows = f.rows; at = stays i f.label f.rows f.at })
-
 -- States where the same gates are finished, and each gate that is not free reads known wires alone.
 pub record AreSame (s : Content) (states : List State) : Type 0 where
   pub count : length states ≡ length s.states
@@ -59,10 +46,7 @@ pub record AreSame (s : Content) (states : List State) : Type 0 where
 module _ {s : Content} {states : List State} (same : AreSame s states) where
   -- The same wires are known,
   pub known-same : (w : ℕ) → IsKnown s w ↔ IsKnown (record s { states = states }) w
-  known-same w = (
-    known-stays s s.states states s.rows s.rows same.stays w,
-    known-stays s states s.states s.rows s.rows same.back w,
-  )
+  known-same w = grind (arith, same.stays, same.back)
 
   -- and a lawful content stays lawful.
   pub lawful-same : IsLawfulContent s → IsLawfulContent (record s { states = states })
@@ -104,24 +88,7 @@ module _ {s : Content} (lawful : IsLawfulContent s) (i : ℕ) (g : Gate)
 
   -- What was known is known then, and the wire that the gate sets is, too.
   pub known-finish : (w : ℕ) → (IsKnown s w ⊎ (w ≡ g.set)) ↔ IsKnown (with_sealed s own) w
-  known-finish w = (to, back)
-    where
-      to : IsKnown s w ⊎ (w ≡ g.set) → IsKnown (with_sealed s own) w
-      to (inl known) = known-stays s s.states (set s.states i done) s.rows (with_sealed s own).rows
-          (λ j label rows has. grind (arith, claimed, one_place)) w known
-      to (inr same) =
-          let f : IsFinished (with_sealed s own) i = record { label = _; rows = _; at = here } in
-          inr (i, record { gate = g; at = at; wire = sym same }, f)
-
-      back : IsKnown (with_sealed s own) w → IsKnown s w ⊎ (w ≡ g.set)
-      back (inl input) = inl (inl input)
-      back (inr (j, by, f)) = elim (cases_eq j i) [
-        | inl same ↦ inr (grind (arith, at, by.at, by.wire))
-        | inr apart ↦
-            let was : slice_get s.states j ≡ Some (Finished f.label f.rows) =
-            grind (arith, f.at, one_place) in
-            inl (inr (j, by, record { label = f.label; rows = f.rows; at = was }))
-      ]
+  known-finish w = grind (arith, cases_eq, at, here, claimed, one_place)
 
   -- Finishing a claimed gate with what sealing its task gives keeps a content lawful.
   pub finish_lawful : IsLawfulContent (with_sealed s own)
@@ -143,9 +110,7 @@ module _ {s : Content} (lawful : IsLawfulContent s) (i : ℕ) (g : Gate)
 -- A gate is finished where its state passes.
 finished_from : (s : Content) (i : ℕ) (state : State) → slice_get s.states i ≡ Some state
     → is_finished state ≡ true → IsFinished s i
-finished_from s i Free at is = cc
-finished_from s i Claimed at is = cc
-finished_from s i (Finished label rows) at is = record { label = label; rows = rows; at = at }
+finished_from s i state at is = grind arith
 
 -- As many gates are finished as there are gates exactly where every gate is.
 pub all_finished : (s : Content) → IsLawfulContent s
@@ -157,8 +122,7 @@ all_finished s lawful = (
       (count_by-all_back is_finished s.states (count ∙ sym lawful.states) i _ at),
   λ all.
       count_by-all is_finished s.states (λ i state at.
-      let f = all i (grind (arith, slice_get_within, lawful.states)) in
-      grind (arith, f.at)) ∙ lawful.states,
+      grind (arith, all i, at, slice_get_within, lawful.states)) ∙ lawful.states,
 )
 
 -- Some gates are claimed exactly where one is.

@@ -1,33 +1,25 @@
 -- What the calls of a store say of its content, from its tables.
-use Rattle.gc_store.proofs.Names.{◌≡◌, ℕ, ◌+◌, ◌<◌, ◌↔◌, inl, inr, IsTrue, List, length, set, get_or, slice_get, slice_index, Option, Some, None, Bool, count_by, refl, sym, ap, ◌∙◌, arith, cases_eq, slice_get_within, slice_get_cases, get_or_from_slice_get, Operation, Gate, Netlist, EachRead, IsSet, IsSetBefore, output_wires, and_number, EachRead-map, read-table, IsSetBefore-below, offset_of, input_label_of, RowPair, zero_label_of, and_number-below, canonical-garbling, GateProgress, is_busy, with_mark, Takes, reads_of, unknown_reads, slice_get-set_same, count_by-both, Task, task_of, sealed_zero_label, sealed_rows, Content, Claimed, is_claimed, is_finished, IsClaimed, IsKnown, IsReady, AllFinished, with_sealed, IsOwnTask, Claims, Tables, queue_of, content_of, IsKept, IsAwaited, IsStored, picked_reads, ReadsKnown}
+use Rattle.gc_store.proofs.Names.{◌≡◌, ℕ, ◌+◌, ◌<◌, ◌↔◌, IsTrue, List, length, set, get_or, slice_get, slice_index, Option, Some, None, Bool, count_by, refl, sym, ap, ◌∙◌, arith, cases_eq, slice_get_within, slice_get_cases, get_or_from_slice_get, Operation, Gate, Netlist, EachRead, IsSet, IsSetBefore, output_wires, and_number, EachRead-map, read-table, IsSetBefore-below, offset_of, input_label_of, RowPair, zero_label_of, and_number-below, canonical-garbling, GateProgress, is_busy, with_mark, Takes, reads_of, unknown_reads, slice_get-set_same, count_by-both, Task, task_of, sealed_zero_label, sealed_rows, Content, is_claimed, is_finished, IsClaimed, IsKnown, IsReady, AllFinished, with_sealed, IsOwnTask, Claims, Tables, queue_of, content_of, IsKept, IsAwaited, IsStored, picked_reads, ReadsKnown}
 use mathlib.Core.Logic.Iff
+use Rattle.gc_store.specs.declared.gate_state.GateState.TheVariants as mark
 use Rattle.gc_netlist.specs.declared.gate.Operation.TheVariants.{And}
 use Rattle.gc_half.specs.Hash.{hash}
 use Rattle.gc_half.specs.Garbling.{rows_of, IsGarbled}
 use Rattle.gc_half.specs.OneGate.{first_read, second_read}
 use Rattle.gc_half.proofs.NumberedLemmas.{zero-IsGarbling}
 use Rattle.gc_half.proofs.GarblingLemmas.{IsGarbling-same}
-use Rattle.gc_store.specs.declared.gate_state.GateState.TheVariants as mark
 use Rattle.gc_store.specs.Queue as queue
 use Rattle.gc_store.proofs.StepLemmas.{set-apart}
-use Rattle.gc_store.proofs.TableLemmas.{state_is, known_label, label_count, finished_tables, sealed_tables, claim_keeps, states-claim, finish_keeps, content-finish}
+pub use Rattle.gc_store.proofs.TableLemmas.{state_is, known_label, label_count, finished_tables, sealed_tables, claim_keeps, states-claim, finish_keeps, content-finish, reopen_keeps, states-reopen, opened_kept, opened_content, counts_set}
 
 -- what a list has at a place, for `grind`
 ruleset at_place = (slice_get_within, slice_get_cases, get_or_from_slice_get)
-
--- there is a gate at each place
-gate_at : (c : Netlist) (i : ℕ) → i < length c.gates
-    → (g : Gate) × (slice_get c.gates i ≡ Some g)
-gate_at c i within = elim (slice_get_cases c.gates i).1 [
-  | inl h ↦ (h.0, h.2)
-  | inr h ↦ absurd (omega arith)
-]
 
 -- no read is unknown exactly where each is known
 none_unknown : (known : ℕ → Bool) (Known : ℕ → Type 0)
     → ((w : ℕ) → IsTrue (known w) ↔ Known w) → (op : Operation)
     → (unknown_reads known op ≡ 0) ↔ EachRead Known op
-none_unknown known Known is op = (λ none. grind arith, λ each. grind arith)
+none_unknown known Known is op = grind arith
 
 -- a read that is not known is picked
 same_reads : (known test : ℕ → Bool) (op : Operation)
@@ -41,15 +33,12 @@ module _ {c : Netlist} {seed : List ℕ} {r : ℕ} {t : Tables} (kept : IsKept c
 
   -- as many gates are claimed as are busy and not finished
   pub claimed_count : count_by is_busy t.marks ≡ count_by is_claimed s.states + t.finished
-  claimed_count =
-      rw kept.finished
-      (count_by-both is_busy is_claimed is_finished t.marks s.states
+  claimed_count = rw kept.finished (count_by-both is_busy is_claimed is_finished t.marks s.states
       (kept.marks ∙ sym kept.lawful.states) (λ i m state at has.
       grind (arith, at_place, kept.marks, state_is c t i)))
 
   set_of : (w : ℕ) → IsKnown s w → IsSet c w
-  set_of w (inl input) = inl input
-  set_of w (inr (i, by, f)) = inr (i, slice_get_within c.gates i by.gate by.at, by)
+  set_of w known = grind (arith, known, slice_get_within)
 
   label_at : (w : ℕ) → w < c.wires → get_or t.zero_labels w 0 ≡ known_label c seed kept.known w
   label_at w below =
@@ -68,73 +57,37 @@ module _ {c : Netlist} {seed : List ℕ} {r : ℕ} {t : Tables} (kept : IsKept c
       → task.first ≡ first_read (slice_index t.zero_labels) g.operation
       → task.second ≡ second_read (slice_index t.zero_labels) g.operation → IsOwnTask s task
   own_task task g reads at op number offset first second =
-      let gates : reads.gate ≡ g = grind (arith, reads.at) in
-      let labels = EachRead-map (IsKnown s) (λ w. get_or t.zero_labels w 0 ≡ zero_label_of c seed w)
-      g.operation known_label_is (rw gates at reads.reads) in
-      let number_is : task.and_number ≡ and_number c task.gate =
-      number ∙ rw kept.and_numbers (read-table (and_number c) (length c.gates) task.gate _
-      (slice_get_within c.gates task.gate g at)) in
-      record { gate = g; at = at; same = grind (arith, kept.offset_is) }
+      let within = slice_get_within c.gates task.gate g at in
+      let numbers = read-table (and_number c) (length c.gates) task.gate task.and_number within in
+      grind (arith, numbers, kept.and_numbers, reads.at, reads.reads, known_label_is, kept.offset_is)
 
   -- a gate's mark is claimed where its state is
   pub claimed_is : (i : ℕ) → (slice_get t.marks i ≡ Some mark.Claimed) ↔ IsClaimed s i
-  claimed_is i =
-      grind (arith, at_place, kept.marks, kept.lawful.states, state_is c t i)
+  claimed_is i = grind (arith, at_place, kept.marks, kept.lawful.states, state_is c t i)
 
   -- a claimed gate reads known wires alone
   pub claimed_reads : (i : ℕ) → IsClaimed s i → ReadsKnown s i
   claimed_reads i claimed =
-      let gate = gate_at c i (grind (arith, slice_get_within, kept.lawful.states)) in
-      record {
-        gate = gate.0;
-        at = gate.1;
-        reads = kept.lawful.reads i gate.0 Claimed gate.1 claimed (λ e. let z : ⊥ = cc in z);
-      }
+      let gate = slice_get_cases c.gates i in
+      grind (arith, slice_get_within, kept.lawful.states, kept.lawful.reads i, gate)
 
-  -- a gate of the queue is ready,
-  queued_ready : (i : ℕ) → queue.IsClaimable (queue_of t) i → IsReady s i
-  queued_ready i ready =
-      let within : i < length c.gates = grind (arith, slice_get_within, kept.marks) in
-      let gate = gate_at c i within in
-      record {
-        gate = gate.0;
-        at = gate.1;
-        free = grind (arith, state_is c t i within, get_or_from_slice_get);
-        reads = (none_unknown kept.known (IsKnown s) kept.marks_known gate.0.operation).0
-            (grind (arith, kept.counted i gate.0 gate.1, get_or_from_slice_get));
-      }
-
-  -- and no other is
-  ready_queued : (i : ℕ) → IsReady s i → queue.IsClaimable (queue_of t) i
-  ready_queued i next =
-      let none = (none_unknown kept.known (IsKnown s) kept.marks_known next.gate.operation).1
-      next.reads in
-      let within = slice_get_within c.gates i next.gate next.at in
-      let state = state_is c t i within in
-      let counted = kept.counted i next.gate next.at in
-      grind (arith, at_place, next.at, next.free, kept.marks, kept.countdowns)
+  -- exactly the gates of the queue are ready
+  queued_is : (i : ℕ) → queue.IsClaimable (queue_of t) i ↔ IsReady s i
+  queued_is i =
+      let at = slice_get_cases c.gates i in
+      let none = none_unknown kept.known (IsKnown s) kept.marks_known in
+      grind (arith, at_place, kept.marks, kept.countdowns, at, state_is c t i, none, kept.counted i)
 
   -- a wire that is set before a gate is not known exactly where an unfinished gate sets it
   awaited_is : (n w : ℕ) → IsSetBefore c n w → (¬ IsKnown s w) ↔ IsAwaited s w
-  awaited_is n w set = (to set, back)
-    where
-      to : IsSetBefore c n w → (¬ IsKnown s w) → IsAwaited s w
-      to (inl input) not = absurd (not (inl input))
-      to (inr (i, below, by)) not = (i, by, λ f. not (inr (i, by, f)))
-
-      back : IsAwaited s w → ¬ IsKnown s w
-      back (i, by, unfinished) (inl input) =
-          kept.lawful.circuit.sets_once i by.gate by.at (inl (rw by.wire input))
-      back (i, by, unfinished) (inr (j, other, f)) =
-          let apart = set-apart c kept.lawful.circuit j i other.gate by.gate other.at by.at in
-          let same : j ≡ i = grind (arith, cases_eq j i, other.wire, by.wire) in
-          unfinished (rw same at f)
+  awaited_is n w set =
+      grind (arith, set, cases_eq, kept.lawful.circuit.sets_once, set-apart c kept.lawful.circuit)
 
   -- what follows for the content from what the tables keep
   pub stored : IsStored c seed r t
   stored = record {
     kept = kept;
-    ready = λ i. (queued_ready i, ready_queued i);
+    ready = queued_is;
     countdowns = λ i g test at waits. kept.counted i g at ∙ same_reads kept.known test g.operation
         (EachRead-map (IsSetBefore c i) (λ w. (¬ IsTrue (kept.known w)) ↔ IsTrue (test w)) _
         (λ w set. Iff.trans (Iff.not (kept.marks_known w))
@@ -159,18 +112,13 @@ module _ {c : Netlist} {seed : List ℕ} {r : ℕ} {t : Tables} (kept : IsKept c
   }
     where
       known_set : (w : ℕ) → IsSet c w → IsKnown s w
-      known_set w (inl input) = inl input
-      known_set w (inr (i, below, by)) = inr (i, by, all i below)
+      known_set w set = grind (arith, set, all)
 
       and_rows : (i : ℕ) (g : Gate) (a b : ℕ) → slice_get c.gates i ≡ Some g → g.operation ≡ And a b
           → slice_get t.rows (and_number c i)
           ≡ Some (rows_of hash (offset_of seed) (zero_label_of c seed) (and_number c i) a b)
       and_rows i g a b at is =
-          let within = slice_get_within c.gates i g at in
-          let f = all i within in
-          let state = state_is c t i within in
-          let rows = kept.lawful.finished i g f.label f.rows at f.at in
-          grind (arith, f.at)
+          grind (arith, all i, slice_get_within, state_is c t i, kept.lawful.finished i g)
 
 -- ---- keeping a sealed task
 
@@ -204,15 +152,13 @@ module _ {c : Netlist} {seed : List ℕ} {r : ℕ} {t : Tables} (kept : IsKept c
 
     -- the tables keep what they kept,
     pub sealed_keeps : IsStored c seed r (finished_tables t q g.set task.and_number label pair)
-    sealed_keeps =
-        rw tables_are (stored (finish_keeps kept task.gate g at claimed' q.countdowns
+    sealed_keeps = rw tables_are (stored (finish_keeps kept task.gate g at claimed' q.countdowns
         (grind (arith, count, marks)) (λ j h at_j. grind (arith, counted j h at_j, marks))))
 
     -- and hold the content that finishing the task gives
     pub sealed_content : content_of c seed (finished_tables t q g.set task.and_number label pair)
         ≡ with_sealed (content_of c seed t) sealed
-    sealed_content =
-        ap (content_of c seed) tables_are
+    sealed_content = ap (content_of c seed) tables_are
         ∙ content-finish kept task.gate g at claimed' q.countdowns
         ∙ ap (with_sealed (content_of c seed t)) (sym own_is)
 
@@ -226,7 +172,7 @@ module _ {c : Netlist} {seed : List ℕ} {r : ℕ} {t : Tables} (kept : IsKept c
     (q : GateProgress) where
   module _ (i : ℕ) (takes : Takes (queue_of t) (Some i) q) where
     next : IsReady (content_of c seed t) i
-    next = queued_ready kept i takes.0
+    next = (queued_is kept i).0 takes.0
 
     -- a ready gate that was taken is claimed,
     pub take_keeps : IsStored c seed r (with_queue t q)
@@ -234,9 +180,7 @@ module _ {c : Netlist} {seed : List ℕ} {r : ℕ} {t : Tables} (kept : IsKept c
 
     -- reads known wires alone,
     pub taken_reads : ReadsKnown (content_of c seed (with_queue t q)) i
-    taken_reads =
-        claimed_reads take_keeps.kept i
-        ((claimed_is take_keeps.kept i).0
+    taken_reads = claimed_reads take_keeps.kept i ((claimed_is take_keeps.kept i).0
         (rw takes.1 (slice_get-set_same t.marks i mark.Claimed
         (slice_get_within t.marks i mark.Free takes.0.0))))
 
@@ -251,4 +195,4 @@ module _ {c : Netlist} {seed : List ℕ} {r : ℕ} {t : Tables} (kept : IsKept c
   pub claims_none : (task : Option Task) → task ≡ None → Takes (queue_of t) None q
       → Claims (content_of c seed t) task (content_of c seed (with_queue t q))
   claims_none task is takes =
-      rw (is, takes.1) (λ i next. takes.0 i (ready_queued kept i next), refl)
+      rw (is, takes.1) (λ i next. takes.0 i ((queued_is kept i).1 next), refl)

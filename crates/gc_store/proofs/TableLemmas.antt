@@ -1,13 +1,8 @@
 -- What opening a store, and claiming, reopening and finishing its gates, keep on its tables.
-use Rattle.gc_store.proofs.Names.{◌≡◌, ◌≢◌, ℕ, ◌+◌, ◌<◌, ◌≤◌, ◌↔◌, ◌⊎◌, ◌==◌, inl, inr, IsTrue, List, length, length-set, map, set, get_or, slice_get, Option, Some, None, is_some, Bool, true, false, if◌then◌else◌, sym, ap, ◌∙◌, subst, arith, replicate, refl, range_with_len, cases_eq, nat_tests, length-map, get_or-set_same, get_or-set_other, get_or-replicate, slice_get-map, slice_get-get_or, get_or_from_slice_get, slice_get_within, gets, Operation, Gate, Netlist, is_and, and_number, input_wires, IsLawful, and_count, length-table, set-table, read-table, offset_of, RowPair, zero_label_of, and_number-below, zero_label_of-gate, zero_label_of-input, GateProgress, freed, reads_of, unknown_reads, IsLinked, one_place, slice_get-set_other, slice_get-set_same, count_by-set_more, slice_get-table, count_by-replicate, slice_get-replicate, Task, task_of, sealed_zero_label, sealed_rows, State, Free, Claimed, Finished, IsClaimed, IsKnown, IsReady, IsLawfulContent, is_finished, opened, with_sealed, reopened, Tables, finished_state, state_at, states_of, content_of, IsKept}
-use Rattle.std.proofs.Math.ListN.{get_or-map, length-replicate}
-use Rattle.std.proofs.lemmas.List.FromFn.{fill_by_all}
+use Rattle.gc_store.proofs.Names.{◌≡◌, ◌≢◌, ℕ, ◌+◌, ◌<◌, ◌≤◌, ◌↔◌, ◌⊎◌, ◌==◌, IsTrue, List, length, length-set, map, set, get_or, slice_get, Option, Some, None, is_some, Bool, true, false, if◌then◌else◌, sym, ap, ◌∙◌, subst, arith, replicate, refl, range_with_len, cases_eq, nat_tests, length-map, get_or-set_same, get_or-set_other, get_or-replicate, slice_get-map, slice_get-get_or, get_or_from_slice_get, slice_get_within, gets, Operation, Gate, Netlist, is_and, and_number, input_wires, and_count, length-table, set-table, read-table, offset_of, RowPair, zero_label_of, and_number-below, zero_label_of-gate, zero_label_of-input, GateProgress, freed, reads_of, unknown_reads, IsLinked, one_place, slice_get-set_other, slice_get-set_same, count_by-set_more, slice_get-table, count_by-replicate, slice_get-replicate, Task, task_of, sealed_zero_label, sealed_rows, State, Free, Claimed, Finished, IsClaimed, IsKnown, IsReady, IsLawfulContent, is_finished, opened, with_sealed, reopened, Tables, finished_state, state_at, states_of, content_of, IsKept, get_or-map, length-replicate, fill_by_all, no_rows, GateState, is_below, opening_countdown}
 use mathlib.Core.Logic.Iff
-use mathlib.Core.Path.{fun_ext}
-use Rattle.gc_half.specs.Canonical.{no_rows}
-use Rattle.gc_store.specs.declared.gate_state.GateState.{GateState}
 use Rattle.gc_store.specs.declared.gate_state.GateState.TheVariants as mark
-use Rattle.gc_store.specs.Opening.{is_below, opening_countdown}
+use mathlib.Core.Path.{fun_ext}
 use Rattle.gc_store.proofs.StepLemmas.{set-apart, and_number-apart, AreSame, known-same, lawful-same, claim-same, reopen-same, known-finish, finish_lawful}
 use Rattle.gc_store.specs.Beginning.{Queues, Tabulates}
 
@@ -25,15 +20,13 @@ state_is c t i within =
 
 -- the states are these where each gate has its own
 pub states_are : (c : Netlist) (labels : List ℕ) (rows : List RowPair) (marks : List GateState)
-    (states : List State) → length states ≡ length c.gates
-    → ((k : ℕ) → k < length c.gates
+    (states : List State) → length states ≡ length c.gates → ((k : ℕ) → k < length c.gates
     → slice_get states k ≡ Some (state_at c labels rows k (get_or marks k mark.Free)))
     → states_of c labels rows marks ≡ states
 unfolding states_of
 states_are c labels rows marks states count each =
     sym (fill_by_all (λ k. state_at c labels rows k (get_or marks k mark.Free)) states
-    (length c.gates) Free count
-    (λ k below. get_or_from_slice_get states k _ Free (each k below)))
+    (length c.gates) Free count (λ k below. get_or_from_slice_get states k _ Free (each k below)))
 
 -- the zero label that a table has, where it is known
 abbrev pub known_label : Netlist → List ℕ → (ℕ → Bool) → ℕ → ℕ
@@ -71,8 +64,7 @@ module _ {c : Netlist} {seed : List ℕ} {r : ℕ} {t : Tables} (kept : IsKept c
   pub states-claim : (i : ℕ) → IsReady (content_of c seed t) i
       → states_of c t.zero_labels t.rows (set t.marks i mark.Claimed)
       ≡ set (states_of c t.zero_labels t.rows t.marks) i Claimed
-  states-claim i next =
-      states_are c t.zero_labels t.rows (set t.marks i mark.Claimed) _
+  states-claim i next = states_are c t.zero_labels t.rows (set t.marks i mark.Claimed) _
       (grind (arith, kept.lawful.states, length-set)) (λ k below.
       let was = state_is c t k below in
       grind (arith, kept.marks, kept.lawful.states, place_set))
@@ -80,15 +72,13 @@ module _ {c : Netlist} {seed : List ℕ} {r : ℕ} {t : Tables} (kept : IsKept c
   -- claiming a ready gate keeps what the tables keep
   pub claim_keeps : (i : ℕ) → IsReady (content_of c seed t) i
       → IsKept c seed r (record t { marks = set t.marks i mark.Claimed })
-  claim_keeps i next =
-      marks_keep _ _ (length-set t.marks i mark.Claimed) (states-claim i next)
+  claim_keeps i next = marks_keep _ _ (length-set t.marks i mark.Claimed) (states-claim i next)
       (claim-same kept.lawful i next)
 
   -- the states once the claimed gates are free again
   pub states-reopen : states_of c t.zero_labels t.rows (map freed t.marks)
       ≡ map reopened (states_of c t.zero_labels t.rows t.marks)
-  states-reopen =
-      states_are c t.zero_labels t.rows (map freed t.marks) _
+  states-reopen = states_are c t.zero_labels t.rows (map freed t.marks) _
       (grind (arith, length-map, kept.lawful.states)) (λ k below.
       let was = state_is c t k below in
       let marks = get_or-map freed t.marks k mark.Free in
@@ -96,8 +86,7 @@ module _ {c : Netlist} {seed : List ℕ} {r : ℕ} {t : Tables} (kept : IsKept c
 
   -- freeing the claimed gates keeps what the tables keep
   pub reopen_keeps : IsKept c seed r (record t { marks = map freed t.marks })
-  reopen_keeps =
-      marks_keep _ _ (length-map t.marks freed) states-reopen (reopen-same kept.lawful)
+  reopen_keeps = marks_keep _ _ (length-map t.marks freed) states-reopen (reopen-same kept.lawful)
 
 -- ---- finishing
 
@@ -165,8 +154,7 @@ module _ {c : Netlist} {seed : List ℕ} {r : ℕ} {t : Tables} (kept : IsKept c
 
     states-finish : states_of c after.zero_labels after.rows after.marks
         ≡ set (states_of c t.zero_labels t.rows t.marks) i (Finished label pair)
-    states-finish =
-        states_are c after.zero_labels after.rows after.marks _
+    states-finish = states_are c after.zero_labels after.rows after.marks _
         (grind (arith, kept.lawful.states, length-set)) (λ k below.
         let at_k = slice_get-get_or c.gates k g below in
         let was = state_is c t k below in
@@ -179,13 +167,9 @@ module _ {c : Netlist} {seed : List ℕ} {r : ℕ} {t : Tables} (kept : IsKept c
 
     -- the wire that a claimed gate sets is not known
     set_unknown : kept.known g.set ≡ false
-    set_unknown = grind (arith, kept.marks_known g.set, no)
-      where
-        no : IsKnown (content_of c seed t) g.set → ⊥
-        no (inl input) = kept.lawful.circuit.sets_once i g at (inl input)
-        no (inr (j, by, f)) =
-            let apart = set-apart c kept.lawful.circuit j i by.gate g by.at at in
-            grind (arith, cases_eq j i, f.at, claimed, by.wire)
+    set_unknown =
+        let apart = set-apart c kept.lawful.circuit in
+        grind (arith, kept.marks_known g.set, cases_eq, kept.lawful.circuit.sets_once i g at, apart)
 
     -- a gate's countdown is no less than its reads of the wire
     pub counts_set : (j : ℕ) (h : Gate) → slice_get c.gates j ≡ Some h
@@ -202,8 +186,7 @@ module _ {c : Netlist} {seed : List ℕ} {r : ℕ} {t : Tables} (kept : IsKept c
       states-sealed : states_of c sealed_tables.zero_labels sealed_tables.rows sealed_tables.marks
           ≡ set (states_of c t.zero_labels t.rows t.marks) i
           (Finished (sealed_zero_label own) (sealed_rows own))
-      states-sealed =
-          states-finish (sealed_zero_label own) (sealed_rows own) (grind arith)
+      states-sealed = states-finish (sealed_zero_label own) (sealed_rows own) (grind arith)
 
       -- hold the content that finishing its task gives
       pub content-finish : content_of c seed sealed_tables ≡ with_sealed (content_of c seed t) own
@@ -232,8 +215,7 @@ module _ {c : Netlist} {seed : List ℕ} {r : ℕ} {t : Tables} (kept : IsKept c
             let zero = zero_label_of-gate c seed kept.lawful.circuit i g at in
             let table = set-table (known_label c seed kept.known) c.wires g.set
             (sealed_zero_label own) (kept.lawful.circuit.sets i g at) in
-            rw (kept.zero_labels, table)
-            (ap (λ (f : ℕ → ℕ). map f (range_with_len 0 c.wires))
+            rw (kept.zero_labels, table) (ap (λ (f : ℕ → ℕ). map f (range_with_len 0 c.wires))
             (fun_ext (λ w. grind (arith, nat_tests, zero))));
         and_numbers = kept.and_numbers;
         rows = grind (arith, kept.rows, length-set);
@@ -256,19 +238,10 @@ opening_positive c opening is i within =
     let below : i < length c.gates = omega (arith, opening_count c opening is) in
     let read = read-table (opening_countdown c) (length c.gates) i 0 below in grind arith
 
-opened_lawful : (c : Netlist) → IsLawful c → (seed : List ℕ) → IsLawfulContent (opened c seed)
-opened_lawful c lawful seed =
-    grind (arith, length-replicate, slice_get-replicate, count_by-replicate)
-
 -- the input wires are known at first, and no others
 known_at_first : (c : Netlist) (seed : List ℕ) (w : ℕ)
     → IsTrue (is_below (input_wires c) w) ↔ IsKnown (opened c seed) w
-known_at_first c seed w = (λ is. inl (grind (arith, nat_tests)), back)
-  where
-    back : IsKnown (opened c seed) w → IsTrue (is_below (input_wires c) w)
-    back (inl input) = grind (arith, nat_tests)
-    back (inr (i, by, f)) =
-        let e = slice_get-replicate (length c.gates) i Free (Finished f.label f.rows) f.at in cc
+known_at_first c seed w = grind (arith, nat_tests, slice_get-replicate)
 
 module _ (c : Netlist) (seed : List ℕ) (t : Tables) (links : IsLinked c t.firsts t.nexts)
     (queue : Queues c t.marks t.countdowns)
@@ -276,8 +249,7 @@ module _ (c : Netlist) (seed : List ℕ) (t : Tables) (links : IsLinked c t.firs
     (no_ands : t.finished_ands ≡ 0) where
   -- every gate is free
   states : states_of c t.zero_labels t.rows t.marks ≡ replicate (length c.gates) Free
-  states =
-      states_are c _ _ _ _ (length-replicate (length c.gates) Free) (λ k below.
+  states = states_are c _ _ _ _ (length-replicate (length c.gates) Free) (λ k below.
       grind (arith, gets, length-replicate, get_or-replicate, queue.marks))
 
   -- so it has the content of a new store,
@@ -287,7 +259,8 @@ module _ (c : Netlist) (seed : List ℕ) (t : Tables) (links : IsLinked c t.firs
   -- and keeps what stores keep
   pub opened_kept : (r : ℕ) → r ≡ offset_of seed → IsKept c seed r t
   opened_kept r offset = record {
-    lawful = rw (states, no_ands) (opened_lawful c queue.lawful seed);
+    lawful = rw (states, no_ands)
+        (grind (arith, queue.lawful, length-replicate, slice_get-replicate, count_by-replicate));
     offset_is = offset;
     marks = ap length queue.marks ∙ length-replicate (length c.gates) mark.Free;
     links = links;
@@ -298,8 +271,7 @@ module _ (c : Netlist) (seed : List ℕ) (t : Tables) (links : IsLinked c t.firs
         let opening = slice_get-table (opening_countdown c) (length c.gates) i
         (slice_get_within c.gates i g at) in
         get_or_from_slice_get t.countdowns i _ 0 (queue.countdowns.counted i _ (grind arith));
-    zero_labels = tables.zero_labels
-        ∙ ap (λ (f : ℕ → ℕ). map f (range_with_len 0 c.wires))
+    zero_labels = tables.zero_labels ∙ ap (λ (f : ℕ → ℕ). map f (range_with_len 0 c.wires))
         (fun_ext (λ w. grind (arith, nat_tests, zero_label_of-input c seed queue.lawful w)));
     and_numbers = tables.and_numbers;
     rows = ap length tables.rows ∙ length-replicate (and_count c) no_rows;

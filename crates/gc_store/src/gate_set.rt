@@ -55,6 +55,7 @@ impl<A: Allocator + Copy> GateSet<A> {
 impl<A: Allocator> GateSet<A> {
     /// Puts a gate into the set. The caller ensures that the set has room for it.
     #[inline]
+    #[tactic(auto, using(crate::proofs::GateSetLemmas::insert_keeps))]
     pub(crate) fn insert(&mut self, gate: u32)
         requires { gate < 64 * length self.old }
         ensures { Adds self.old gate self.new }

@@ -204,6 +204,7 @@ impl<A: Allocator> PartialGarbling<A> {
     }
 
     /// Whether every gate is finished.
+    #[tactic(auto, using(crate::proofs::StepLemmas::all_finished))]
     pub(crate) fn is_complete(&self) -> bool
         ensures complete { IsTrue result ↔ AllFinished self.now }
         ensures lawful { IsLawfulContent self.now }

@@ -1,7 +1,4 @@
-use Rattle.std.proofs.Common.{arith}
-use Rattle.std.proofs.lemmas.Grind.{common_steps}
-use Rattle.std.proofs.lemmas.List.FromFn.{map-range_with_len_more}
-use Rattle.gc_store.specs.Opening.{opening_countdown}
+use Rattle.gc_store.proofs.Names.{arith, common_steps, map-range_with_len_more, opening_countdown}
 use Rattle.gc_store.proofs.tables.opening_countdowns.Goals as goal
 
 pub loop-i-preserved : goal.loop-i-preserved

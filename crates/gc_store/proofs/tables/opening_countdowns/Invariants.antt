@@ -1,6 +1,4 @@
-use Rattle.std.proofs.Common.{◌≡◌, map}
-use Rattle.std.specs.List.{range_with_len}
-use Rattle.gc_store.specs.Opening.{opening_countdown}
+use Rattle.gc_store.proofs.Names.{◌≡◌, map, range_with_len, opening_countdown}
 use Rattle.gc_store.proofs.tables.opening_countdowns.Given as goal
 
 abbrev pub invariant-loop-i : goal.invariant-loop-i

@@ -1,5 +1,4 @@
-use Rattle.std.proofs.Common.{◌≡◌, ◌-◌, length}
-use Rattle.gc_store.specs.GateSet.{IsGateSet}
+use Rattle.gc_store.proofs.Names.{◌≡◌, ◌-◌, length, IsGateSet}
 use Rattle.gc_store.proofs.gate_set.GateSet.first_word.Given as goal
 
 abbrev pub invariant-loop-self : goal.invariant-loop-self

@@ -1,6 +1,5 @@
 use Rattle.std.proofs.Common.{arith}
-use Rattle.gc_store.proofs.TableLemmas.{label_count}
-use Rattle.gc_store.proofs.StoreLemmas.{garbling_is}
+use Rattle.gc_store.proofs.StoreLemmas.{label_count, garbling_is}
 use Rattle.gc_store.proofs.partial.PartialGarbling.into_garbling.Goals as goal
 
 pub from_parts-requires : goal.from_parts-requires

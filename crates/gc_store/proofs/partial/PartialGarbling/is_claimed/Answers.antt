@@ -3,10 +3,6 @@ use mathlib.Core.Logic.Iff
 use Rattle.gc_store.proofs.StoreLemmas.{claimed_is, claimed_reads}
 use Rattle.gc_store.proofs.partial.PartialGarbling.is_claimed.Goals as goal
 
-pub is_claimed-requires : goal.is_claimed-requires
-is_claimed-requires g c =
-    omega (arith, c.gates.ensures.count, c.if-i-gates.true, c.self.invariant.kept.marks)
-
 pub returns-then-i-gates : goal.returns-then-i-gates
 returns-then-i-gates g c =
     let kept = c.self.invariant.kept in

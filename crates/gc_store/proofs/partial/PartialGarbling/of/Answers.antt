@@ -1,6 +1,5 @@
 use Rattle.std.proofs.Common.{refl}
-use Rattle.gc_store.proofs.TableLemmas.{opened_kept, opened_content}
-use Rattle.gc_store.proofs.StoreLemmas.{stored}
+use Rattle.gc_store.proofs.StoreLemmas.{opened_kept, opened_content, stored}
 use Rattle.gc_store.proofs.partial.PartialGarbling.of.Goals as goal
 
 pub invariant_of-result : goal.invariant_of-result

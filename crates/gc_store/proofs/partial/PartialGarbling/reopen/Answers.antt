@@ -1,10 +1,8 @@
-use Rattle.gc_store.proofs.StoreLemmas.{stored}
-use Rattle.gc_store.proofs.TableLemmas.{reopen_keeps, states-reopen}
+use Rattle.gc_store.proofs.StoreLemmas.{reopen_keeps, states-reopen, stored}
 use Rattle.gc_store.proofs.partial.PartialGarbling.reopen.Goals as goal
 
 pub invariant_of-self : goal.invariant_of-self
-invariant_of-self g c =
-    rw (c.reopen.ensures.marks, c.reopen.ensures.countdowns)
+invariant_of-self g c = rw (c.reopen.ensures.marks, c.reopen.ensures.countdowns)
     (stored (reopen_keeps c.self.invariant.kept))
 
 pub returns : goal.returns

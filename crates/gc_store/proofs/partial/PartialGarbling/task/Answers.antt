@@ -1,6 +1,5 @@
 use Rattle.gc_store.proofs.Names.{refl, arith, slice_get_within, and_number, length-table, EachRead-below}
-use Rattle.gc_store.proofs.TableLemmas.{label_count}
-use Rattle.gc_store.proofs.StoreLemmas.{own_task}
+use Rattle.gc_store.proofs.StoreLemmas.{label_count, own_task}
 use Rattle.gc_store.proofs.partial.PartialGarbling.task.Goals as goal
 
 pub labels_read-first-requires : goal.labels_read-first-requires
@@ -17,8 +16,7 @@ index-requires g c =
     grind (arith, slice_get_within)
 
 pub returns-clause-own : goal.returns-clause-own
-returns-clause-own g c =
-    rw (← c.self.view_is)
+returns-clause-own g c = rw (← c.self.view_is)
     (own_task c.self.invariant.kept _ c.gate-operation.result
     (rw (← c.self.view_is) at c.requires) c.gate-operation.ensures refl c.index.ensures refl
     (rw c.deref.ensures.value at c.labels_read-first.ensures.first)

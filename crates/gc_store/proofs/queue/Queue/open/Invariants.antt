@@ -1,4 +1,4 @@
-use Rattle.std.proofs.Common.{◌≡◌, ℕ, ◌+◌, ◌<◌, ◌≤◌, Some, length, replicate, slice_get}
+use Rattle.gc_store.proofs.Names.{◌≡◌, ℕ, ◌+◌, ◌<◌, ◌≤◌, Some, length, replicate, slice_get}
 use Rattle.gc_store.specs.declared.gate_state.GateState.TheVariants as mark
 use Rattle.gc_store.proofs.queue.Queue.open.Given as goal
 

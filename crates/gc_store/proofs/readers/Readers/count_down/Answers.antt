@@ -1,6 +1,4 @@
-use Rattle.std.proofs.Common.{◌<◌, length-set, refl, ◌∙◌, arith}
-use Rattle.std.proofs.lemmas.List.{get_or_read}
-use Rattle.gc_store.specs.Readers.{read_count}
+use Rattle.gc_store.proofs.Names.{◌<◌, length-set, refl, ◌∙◌, arith, get_or_read, read_count}
 use Rattle.gc_store.proofs.ReadersLemmas.{counted_none, still_counted, counted_more, counted_all}
 use Rattle.gc_store.proofs.readers.Readers.count_down.Goals as goal
 
@@ -42,6 +40,5 @@ loop-read-preserved g c =
     }
 
 pub returns-clause-counted : goal.returns-clause-counted
-returns-clause-counted g c =
-    counted_all _ _ _ _ _ c.loop-read.invariant.counted
+returns-clause-counted g c = counted_all _ _ _ _ _ c.loop-read.invariant.counted
     (omega (arith, c.loop-read-test.false, c.gates-reads.ensures.count))

@@ -1,21 +1,14 @@
-use Rattle.std.proofs.Common.{◌≡◌, ◌*◌, arith}
-use Rattle.gc_store.proofs.ReadersLemmas.{unlinked, link_no_wire, link_wire}
+use Rattle.std.proofs.Common.{◌≡◌, arith}
+use Rattle.gc_store.proofs.ReadersLemmas.{link_no_wire, link_wire}
 use Rattle.gc_store.proofs.readers.Readers.of.Goals as goal
 
-pub loop-read-init : goal.loop-read-init
-loop-read-init g c =
-    unlinked _ (2 * c.gates-reads.result) _ _ _ (omega (arith, c.gates-reads.ensures.count))
-    c.wires.ensures.count c.in_ok-firsts.ensures c.in_ok-nexts.ensures
-
 pub loop-read-preserved-in-Some : goal.loop-read-preserved-in-Some
-loop-read-preserved-in-Some g c =
-    link_wire _ c.gates-reads.ensures.lawful _ c.loop-read.read _ _
+loop-read-preserved-in-Some g c = link_wire _ c.gates-reads.ensures.lawful _ c.loop-read.read _ _
     (omega (arith, c.loop-read-test.true)) c.loop-read.invariant _ _ c.in-Some.ensures
     c.index.ensures
 
 pub loop-read-preserved : goal.loop-read-preserved
-loop-read-preserved g c =
-    link_no_wire _ c.gates-reads.ensures.lawful _ c.loop-read.read _ _
+loop-read-preserved g c = link_no_wire _ c.gates-reads.ensures.lawful _ c.loop-read.read _ _
     (omega (arith, c.loop-read-test.true)) c.loop-read.invariant c.in_default.ensures
 
 pub returns : goal.returns

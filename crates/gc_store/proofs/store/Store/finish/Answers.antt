@@ -2,9 +2,6 @@ use Rattle.std.proofs.Common.{arith}
 use Rattle.gc_store.proofs.CountLemmas.{finishes-count}
 use Rattle.gc_store.proofs.store.Store.finish.Goals as goal
 
-pub raise-requires : goal.raise-requires
-raise-requires g c = omega (arith, c.self.invariant, c.law_few_finished.ensures)
-
 pub invariant_of-self-2 : goal.invariant_of-self-2
 invariant_of-self-2 g c =
     let count = finishes-count _ _ _ _ c.in_ok-complete.ensures in
