@@ -1,46 +1,19 @@
 -- What is left of a gathered pool, and one task that is taken from it.
-use Rattle.gc_work.proofs.Names.{◌≡◌, ℕ, ◌+◌, ◌<◌, Bool, true, false, cond, List, [], ◌∷◌, ◌++◌, length, Option, Some, None, MatchOption, sym, refl, ap, ◌∙◌, append_assoc, rules, arith, sum_by-cons, sum_by-append, sum_by_push, Task, PoolAccount, IsTakenFrom, weigh, account, all_parts, AccountsFor, AccountsForSome, IsGathered}
+use Rattle.gc_work.proofs.Names.{◌≡◌, ℕ, ◌+◌, ◌<◌, Bool, true, false, cond, List, [], ◌∷◌, ◌++◌, length, Option, Some, None, MatchOption, sym, refl, ap, ◌∙◌, append_assoc, arith, sum_by-cons, sum_by-append, sum_by_push, Task, PoolAccount, IsTakenFrom, weigh, account, all_parts, AccountsFor, AccountsForSome, IsGathered}
 use Rattle.std.specs.Bool.{Decides}
-use Rattle.std.proofs.lemmas.Bool.Decides.{Decides-and, Decides-like, Decides-eqb}
 use Rattle.std.specs.Set.{remove_key}
 use Rattle.gc_work.specs.Left.{same_task, without, left_of}
 
 -- `==` of two tasks holds exactly where they are the same
 decides : (a b : Task) → Decides (same_task a b) (a ≡ b)
-decides a b = Decides-like (same_task a b)
-    (λ f i. record {
-      gate = f.0 i;
-      operation = f.1.0 i;
-      and_number = f.1.1.0 i;
-      offset = f.1.1.1.0 i;
-      first = f.1.1.1.1.0 i;
-      second = f.1.1.1.1.1 i;
-    })
-    (λ e. (
-      ap (λ (t : Task). t.gate) e,
-      (
-        ap (λ (t : Task). t.operation) e,
-        (
-          ap (λ (t : Task). t.and_number) e,
-          (
-            ap (λ (t : Task). t.offset) e,
-            (ap (λ (t : Task). t.first) e, ap (λ (t : Task). t.second) e),
-          ),
-        ),
-      ),
-    ))
-    (Decides-and _ _ (Decides-eqb a.gate b.gate)
-    (Decides-and _ _ (search rules)
-    (Decides-and _ _ (Decides-eqb a.and_number b.and_number)
-    (Decides-and _ _ (Decides-eqb a.offset b.offset)
-    (Decides-and _ _ (Decides-eqb a.first b.first) (Decides-eqb a.second b.second))))))
+decides a b = grind arith
 
 -- 1 at this task, and 0 at any other
 abbrev is : Task → Task → ℕ
 is task t = cond (same_task task t) 1 0
 
 is_itself : (task : Task) → is task task ≡ 1
-is_itself task = ap (λ b. cond b 1 0) ((decides task task).1 refl)
+is_itself task = grind arith
 
 -- a task that is in the list is taken from it
 taken : (task : Task) (tasks : List Task) → 0 < weigh (is task) tasks
@@ -53,19 +26,12 @@ taken task (t ∷ ts) some = by (same_task task t) refl (taken task ts)
         → IsTakenFrom task (t ∷ ts) (cond b ts (t ∷ remove_key (same_task task) ts))
     by true same later = ([], ts, ap (λ x. x ∷ ts) (sym ((decides task t).0 same)), refl)
     by false other later =
-        let none : is task t ≡ 0 = ap (λ b. cond b 1 0) other in
-        let rest = later (omega (arith, sum_by-cons (is task) t ts)) in
+        let rest = later (grind (arith, sum_by-cons (is task) t ts)) in
         (t ∷ rest.0, rest.1, ap (λ xs. t ∷ xs) rest.2, ap (λ xs. t ∷ xs) rest.3)
 
 taken-weigh : (h : Task → ℕ) (task : Task) (before after : List Task)
-    → IsTakenFrom task before after
-    → weigh h before ≡ h task + weigh h after
-taken-weigh h task before after (front, back, was, now) = rw (was, now) (omega (
-  arith,
-  sum_by-append h front (task ∷ back),
-  sum_by-cons h task back,
-  sum_by-append h front back,
-))
+    → IsTakenFrom task before after → weigh h before ≡ h task + weigh h after
+taken-weigh h task before after (front, back, was, now) = grind (arith, sum_by-append, sum_by-cons)
 
 -- where these tasks are, as counts, some that are gone and some that are left, they weigh without
 -- the former what the latter weigh
@@ -75,12 +41,8 @@ without-weigh : (tasks gone left : List Task)
 without-weigh tasks [] left same h = omega (arith, same h)
 without-weigh tasks (t ∷ ts) left same h =
     let there = taken t tasks (omega (arith, same (is t), sum_by-cons (is t) t ts, is_itself t)) in
-    without-weigh (remove_key (same_task t) tasks) ts left (λ k. omega (
-      arith,
-      same k,
-      sum_by-cons k t ts,
-      taken-weigh k t tasks (remove_key (same_task t) tasks) there,
-    )) h
+    without-weigh (remove_key (same_task t) tasks) ts left
+    (λ k. omega (arith, same k, sum_by-cons k t ts, taken-weigh k t tasks _ there)) h
 
 without-push : (tasks gone : List Task) (task : Task)
     → without tasks (gone ++ task ∷ []) ≡ remove_key (same_task task) (without tasks gone)

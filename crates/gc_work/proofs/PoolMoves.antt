@@ -1,6 +1,6 @@
 -- Each move keeps the rule of a pool.
-use Rattle.gc_work.proofs.Names.{◌≡◌, ℕ, zero, suc, ◌+◌, ◌-◌, ◌^◌, ◌<◌, ◌≤◌, List, [], ◌∷◌, ◌++◌, append_assoc, append-nil, set, inl, inr, sym, refl, ap, ◌∙◌, subst, arith, sum_by-cons, sum_by-append, sum_by_push, Task, PoolAccount, RowsId, ThiefParts, AllOf, stolen_by, weigh, IsOwning, account, total, gone, IsEmptyIfIdle, IdleIsEmpty, IsBalanced, AccountsFor, AccountsForSome}
-use mathlib.Core.Option.{some, some-ne-none, some-injective}
+use Rattle.gc_work.proofs.Names.{◌≡◌, ℕ, zero, suc, ◌+◌, ◌-◌, ◌^◌, ◌<◌, ◌≤◌, List, [], ◌∷◌, ◌++◌, append_assoc, append-nil, set, sym, refl, ap, ◌∙◌, arith, sum_by-cons, sum_by-append, sum_by_push, Task, PoolAccount, RowsId, ThiefParts, AllOf, stolen_by, weigh, IsOwning, account, total, gone, IsEmptyIfIdle, IdleIsEmpty, IsBalanced, AccountsFor, AccountsForSome}
+use mathlib.Core.Option.{some, some-injective}
 use lib.ListN.{get_elem?}
 use Rattle.crossbeam_deque.specs.Tasks.{Pushes, Takes, Pops, Finds, Forks, Merges, Learns}
 use Rattle.crossbeam_deque.proofs.Lists.{at_set, at_snoc, set_here}
@@ -19,11 +19,9 @@ pushed h v = weigh h v.pushed
 -- the total after a change of one view
 total_set : (f : PoolAccount → ℕ) (views : List PoolAccount) (port : ℕ) (v w : PoolAccount)
     → get_elem? views port ≡ some v → total f (set views port w) + f v ≡ total f views + f w
-total_set f [] port v w at = absurd (some-ne-none v (sym at))
-total_set f (x ∷ xs) zero v w at =
-    omega (arith, sum_by-cons f x xs, sum_by-cons f w xs, ap f (some-injective x v at))
-total_set f (x ∷ xs) (suc port) v w at =
-    omega (arith, sum_by-cons f x xs, sum_by-cons f x (set xs port w), total_set f xs port v w at)
+total_set f [] port v w at = cc
+total_set f (x ∷ xs) zero v w at = grind (arith, sum_by-cons, some-injective x v at)
+total_set f (x ∷ xs) (suc port) v w at = grind (arith, sum_by-cons, total_set f xs port v w at)
 
 -- where no view has a part, nothing was done
 none_done : (f : PoolAccount → ℕ) → f idle ≡ 0 → (views : List PoolAccount)
@@ -35,19 +33,12 @@ none_done f none (x ∷ xs) nil empty =
     omega (arith, sum_by-cons f x xs, ap f (empty 0 x refl (omega arith)))
 
 idle_set : (views : List PoolAccount) (port : ℕ) (w : PoolAccount) → IsEmptyIfIdle w
-    → IdleIsEmpty views
-    → IdleIsEmpty (set views port w)
-idle_set views port w mine old j u e = elim (at_set views port j w u e) [
-  | inl (here, is) ↦ subst IsEmptyIfIdle is mine
-  | inr (other, at) ↦ old j u at
-]
+    → IdleIsEmpty views → IdleIsEmpty (set views port w)
+idle_set views port w mine old j u e = grind (arith, at_set views port j w u e, mine, old j u)
 
 idle_push : (views : List PoolAccount) (w : PoolAccount) → IsEmptyIfIdle w → IdleIsEmpty views
     → IdleIsEmpty (views ++ w ∷ [])
-idle_push views w mine old j u e = elim (at_snoc views w u j e) [
-  | inl at ↦ old j u at
-  | inr is ↦ subst IsEmptyIfIdle is mine
-]
+idle_push views w mine old j u e = grind (arith, at_snoc views w u j e, mine, old j u)
 
 -- the view that has every part did all that was done
 all_done : (f : PoolAccount → ℕ) → f idle ≡ 0
@@ -71,13 +62,7 @@ moves items items' views port v w part same step b at = (
   w,
   (
     omega (arith, total_set parts views port v w at, b.0),
-    λ h. omega (
-      arith,
-      total_set (pushed h) views port v w at,
-      total_set (gone h) views port v w at,
-      b.1 h,
-      step h,
-    ),
+    λ h. grind (arith, total_set, b.1 h, step h),
     idle_set views port w (λ none. absurd (omega arith)) b.2,
   ),
   refl,
@@ -115,37 +100,19 @@ forks port v two items views b at =
     let r = account 1 [] [] [] in
     let vs = set views port l in (
       omega (arith, total_set parts views port v l at, sum_by_push parts vs r, b.0),
-      λ h. omega (
-        arith,
-        total_set (pushed h) views port v l at,
-        total_set (gone h) views port v l at,
-        sum_by_push (pushed h) vs r,
-        sum_by_push (gone h) vs r,
-        b.1 h,
-      ),
+      λ h. grind (arith, total_set, sum_by_push, b.1 h),
       idle_push vs r (λ none. absurd (omega arith))
           (idle_set views port l (λ none. absurd (omega arith)) b.2),
     )
 
 pub merges : (port : ℕ) (v : PoolAccount) (other : ℕ) (u : PoolAccount) → 0 < v.parts
-    → u ≡ account 1 [] [] u.stolen
-    → Merges IsBalanced port v other u
+    → u ≡ account 1 [] [] u.stolen → Merges IsBalanced port v other u
     (account (v.parts + u.parts) v.pushed v.popped (v.stolen ++ u.stolen)) idle
 merges port v other u part is items views b at apart at' =
     let both = account (v.parts + u.parts) v.pushed v.popped (v.stolen ++ u.stolen) in
     let vs = set views port both in (
       omega (arith, total_set parts views port v both at, total_set parts vs other u idle at', b.0),
-      λ h. omega (
-        arith,
-        total_set (pushed h) views port v both at,
-        total_set (pushed h) vs other u idle at',
-        total_set (gone h) views port v both at,
-        total_set (gone h) vs other u idle at',
-        b.1 h,
-        ap (pushed h) is,
-        ap (gone h) is,
-        sum_by-append h v.stolen u.stolen,
-      ),
+      λ h. grind (arith, total_set, b.1 h, is, sum_by-append h v.stolen u.stolen),
       idle_set vs other idle (λ _. refl)
           (idle_set views port both (λ none. absurd (omega arith)) b.2),
     )
@@ -169,8 +136,7 @@ known items views port v w b at =
     let here = set_here views port w (at_lt views port v at) in
     (items, learns port w items (set views port w) b here)
 
-pub hands : (port : ℕ) (v : PoolAccount) → 0 < v.parts
-    → Pops IsBalanced port v
+pub hands : (port : ℕ) (v : PoolAccount) → 0 < v.parts → Pops IsBalanced port v
     (λ xs w. (w ≡ account v.parts v.pushed (v.popped ++ xs) v.stolen) × AccountsForSome w)
 hands port v part x items views b at =
     let step = pops port v part x items views b at in
@@ -204,18 +170,12 @@ module _ {A : Type 0} where
   pub stolen_by-push : (ts : List (ThiefParts A)) (t : ThiefParts A)
       → stolen_by (ts ++ t ∷ []) ≡ stolen_by ts ++ t.stolen
   stolen_by-push [] t = append-nil t.stolen
-  stolen_by-push (x ∷ xs) t =
-      rw (stolen_by-push xs t) (sym (append_assoc x.stolen (stolen_by xs) t.stolen))
+  stolen_by-push (x ∷ xs) t = rw (stolen_by-push xs t, append_assoc) refl
 
 -- an owner that gave one part to a thief
 pub one_less : (v w : PoolAccount) (room room' next next' capacity thieves : ℕ)
     → IsOwning v room next capacity thieves → w ≡ account (v.parts - 1) v.pushed v.popped v.stolen
     → room ≤ room' → next' ≡ next → thieves + 1 < 2 ^ 32
     → IsOwning w room' next' capacity (thieves + 1)
-one_less v w room room' next next' capacity thieves o is more same few = rw is (record {
-  nothing_stolen = o.nothing_stolen;
-  parts = omega (arith, o.parts, o.few);
-  few = few;
-  room = omega (arith, o.room);
-  index = omega (arith, o.index);
-})
+one_less v w room room' next next' capacity thieves o is more same few =
+    grind (arith, o.nothing_stolen, o.parts, o.room, o.index, o.few)
