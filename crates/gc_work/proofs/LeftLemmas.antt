@@ -60,22 +60,6 @@ gathered v all (tasks, knows) = record {
       omega (arith, knows.whole all h);
 }
 
--- a task that was popped is taken from what was left
-hands_one : (v w : PoolAccount) (task : Task) → IsGathered v
-    → w ≡ account v.parts v.pushed (v.popped ++ task ∷ []) v.stolen → AccountsForSome w
-    → IsTakenFrom task (left_of v) (left_of w)
-hands_one v w task g is_w some =
-    let knows = rw is_w at some in
-    let gone = v.stolen ++ v.popped in
-    let more = sum_by_push (is task) v.popped task in
-    rw (is_w, ← append_assoc v.stolen v.popped (task ∷ []), without-push v.pushed gone task)
-    (taken task (left_of v) (omega (
-      arith,
-      g.conserved (is task),
-      knows.1.whole g.parts (is task),
-      is_itself task,
-    )))
-
 nothing : (tasks : List Task) → weigh (λ _. 1) tasks ≡ 0 → tasks ≡ []
 nothing [] none = refl
 nothing (t ∷ ts) none = absurd (omega (arith, sum_by-cons (λ (_ : Task). 1) t ts))
@@ -96,8 +80,14 @@ still_gathered v w None g (same, _) = rw same g
 still_gathered v w (Some task) g (is, knows) =
     gathered w (ap (λ (u : PoolAccount). u.parts) is ∙ g.parts) knows
 
+-- what is left loses the task that was popped
 pub takes_one : (v w : PoolAccount) (r : Option Task) → IsGathered v → HandsOut v w r
     → MatchOption r (left_of v ≡ []) (λ t. IsTakenFrom t (left_of v) (left_of w))
 takes_one v w None g (_, empty) =
     nothing (left_of v) (omega (arith, g.conserved (λ _. 1), empty.whole g.parts (λ _. 1)))
-takes_one v w (Some task) g (is, knows) = hands_one v w task g is knows
+takes_one v w (Some task) g (is_w, some) =
+    let knows = rw is_w at some in
+    let gone = v.stolen ++ v.popped in
+    let more = sum_by_push (is task) v.popped task in
+    rw (is_w, ← append_assoc v.stolen v.popped (task ∷ []), without-push v.pushed gone task)
+    (taken task (left_of v) (grind (arith, g.conserved, knows.1.whole g.parts, is_itself task)))

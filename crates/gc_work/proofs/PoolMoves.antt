@@ -1,5 +1,5 @@
 -- Each move keeps the rule of a pool.
-use Rattle.gc_work.proofs.Names.{◌≡◌, ℕ, zero, suc, ◌+◌, ◌-◌, ◌^◌, ◌<◌, ◌≤◌, List, [], ◌∷◌, ◌++◌, append_assoc, append-nil, set, sym, refl, ap, ◌∙◌, arith, sum_by-cons, sum_by-append, sum_by_push, Task, PoolAccount, RowsId, ThiefParts, AllOf, stolen_by, weigh, IsOwning, account, total, gone, IsEmptyIfIdle, IdleIsEmpty, IsBalanced, AccountsFor, AccountsForSome}
+use Rattle.gc_work.proofs.Names.{◌≡◌, ℕ, zero, suc, ◌+◌, ◌-◌, ◌^◌, ◌<◌, ◌≤◌, List, [], ◌∷◌, ◌++◌, append_assoc, append-nil, set, sym, refl, ◌∙◌, arith, sum_by-cons, sum_by-append, sum_by_push, Task, PoolAccount, RowsId, ThiefParts, AllOf, stolen_by, weigh, IsOwning, account, total, gone, IsEmptyIfIdle, IdleIsEmpty, IsBalanced, AccountsFor, AccountsForSome}
 use mathlib.Core.Option.{some, some-injective}
 use lib.ListN.{get_elem?}
 use Rattle.crossbeam_deque.specs.Tasks.{Pushes, Takes, Pops, Finds, Forks, Merges, Learns}
@@ -28,9 +28,9 @@ none_done : (f : PoolAccount → ℕ) → f idle ≡ 0 → (views : List PoolAcc
     → total (λ v. v.parts) views ≡ 0 → IdleIsEmpty views → total f views ≡ 0
 none_done f none [] nil empty = refl
 none_done f none (x ∷ xs) nil empty =
-    let first = sum_by-cons parts x xs in
-    let rest = none_done f none xs (omega arith) (λ port v e. empty (suc port) v e) in
-    omega (arith, sum_by-cons f x xs, ap f (empty 0 x refl (omega arith)))
+    let rest = none_done f none xs in
+    let later = λ (port : ℕ). empty (suc port) in
+    grind (arith, sum_by-cons parts x xs, sum_by-cons f x xs, rest, empty 0 x, later)
 
 idle_set : (views : List PoolAccount) (port : ℕ) (w : PoolAccount) → IsEmptyIfIdle w
     → IdleIsEmpty views → IdleIsEmpty (set views port w)
@@ -45,10 +45,8 @@ all_done : (f : PoolAccount → ℕ) → f idle ≡ 0
     → (views : List PoolAccount) (port : ℕ) (v : PoolAccount) → get_elem? views port ≡ some v
     → total (λ v. v.parts) views ≡ v.parts → IdleIsEmpty views → total f views ≡ f v
 all_done f none views port v at whole empty =
-    let without = total_set parts views port v idle at in
-    let others = none_done f none (set views port idle) (omega arith)
-    (idle_set views port idle (λ _. refl) empty) in
-    omega (arith, total_set f views port v idle at)
+    let without = none_done f none (set views port idle) in
+    grind (arith, total_set, without, idle_set views port idle)
 
 -- A view with a part may add tasks to one of its lists: what was pushed joins the pool, and what
 -- was taken leaves it.
