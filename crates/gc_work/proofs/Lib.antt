@@ -1,4 +1,3 @@
 pub mod Names
 pub mod PoolMoves
 pub mod LeftLemmas
-pub mod SweepLemmas
