@@ -1,16 +1,7 @@
 -- The struct of one pointer, as the machine holds it. `Borrow` is such a struct.
-use Rattle.halfgates_c.proofs.Walk.{◌≡◌, List, [], ◌∷◌, ◌++◌, refl, ap, ◌∙◌, Val, Ura, Logic, sem, emp, RattleType, Ptr, block_ptr, null_ptr, ptr_val, lit<}
-use mir.Syntax.{Sym, Lifetime, ty_ptr, ty_struct, tcons, tnil}
-use mir.Val.{vstruct, vcons, vnil, of_list}
-use base.Logic.{ent}
+use Rattle.halfgates_c.proofs.Walk.{◌≡◌, List, [], ◌∷◌, ◌++◌, refl, ap, ◌∙◌, Val, Ura, Logic, sem, emp, RattleType, Ptr, block_ptr, null_ptr, ptr_val, lit<, Sym, Lifetime, ty_ptr, ty_struct, tcons, tnil, vstruct, vcons, vnil, of_list, ent, Is, Opens, RawPtr, RawPtr-copy, Shape, Struct, Good}
 use denote.Copied.{Struct-Copied}
-use denote.Laws.{Is}
-use denote.Opens.{Opens}
-use denote.Builtin.{RawPtr}
 use denote.Shadow.{makes_shadow}
-use denote.Struct.Laws.{RawPtr-copy}
-use denote.Struct.Struct.{Shape, Struct}
-use Rattle.core.proofs.cell.Inside.{Good}
 
 -- the struct's machine value
 abbrev pub word : Ptr → Val
@@ -28,14 +19,12 @@ module _ (name : Sym) (args : List Lifetime) (types : List RattleType) where
       is.1.0 ∙ ap (λ (parts : List Val). vstruct (of_list (parts ++ [])) ∷ []) is.1.1.0
 
   pub opened : {M : Type 1} {𝓤 : Ura M} (𝓛 : Logic 𝓤) → Opens 𝓛 Alone
-  opened {M} {𝓤 = 𝓤} 𝓛 =
-      (Struct-Copied 𝓛 form (refl, tt) (RawPtr-copy.copied M 𝓤 𝓛, tt)).opens
+  opened {M} {𝓤 = 𝓤} 𝓛 = (Struct-Copied 𝓛 form (refl, tt) (RawPtr-copy.copied M 𝓤 𝓛, tt)).opens
 
   -- what such a struct owns is nothing but which value it is
   pub made : {M : Type 1} {𝓤 : Ura M} (𝓛 : Logic 𝓤) (p : Ptr)
       → ent 𝓤 (emp 𝓤) (sem 𝓛 (Alone.own_val (p, tt) (word p ∷ [])))
-  made 𝓛 p =
-      makes_shadow 𝓛 (Alone.own_val (p, tt) (word p ∷ [])) (λ vss. (tt, (tt, tt)))
+  made 𝓛 p = makes_shadow 𝓛 (Alone.own_val (p, tt) (word p ∷ [])) (λ vss. (tt, (tt, tt)))
       ((ptr_val p ∷ [], tt), (refl, (refl, tt)))
 
 -- a pointer makes a value of the struct's type

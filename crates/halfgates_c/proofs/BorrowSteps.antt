@@ -1,18 +1,9 @@
 -- What a `Borrow` owns, and what a reference to it holds: nothing at null, or a right to read a value.
-use Rattle.halfgates_c.proofs.Walk.{◌≡◌, ℕ, List, ◌∷◌, refl, Ura, Logic, Item, Goal, Seq, ‵, given, ◌$◌, drop, fsplit, fpick, use1, learn, ftrue, RattleType, Ptr, block_ptr, null_ptr}
-use base.Fml.{Lft, ffalse}
-use base.Logic.{never_e}
+use Rattle.halfgates_c.proofs.Walk.{◌≡◌, ℕ, List, ◌∷◌, refl, Ura, Logic, Item, Goal, Seq, ‵, ◌$◌, drop, fsplit, fpick, ftrue, RattleType, Ptr, block_ptr, null_ptr, Lft, ffalse, RowLaws, Testable, lent_at, lent_at_shr_laws, Lends, Lends-both, Lends-false, Lends-nothing, Lends-said, Option, lent_laws, Lends-part, None, Some, borrow_owns, borrow_shares, may_test, impossible}
 use denote.Pure.{Pure}
-use denote.RattleType.{RowLaws}
-use denote.RawPtr.{Testable}
 use denote.Sharing.{ShrLaws, said}
 use denote.SharingLaws.{beside_shr_laws, nothing_shr_laws, said_shr_laws}
-use denote.Struct.Lending.{lent_at, lent_at_shr_laws, Lends, Lends-both, Lends-false, Lends-nothing, Lends-said}
-use Rattle.std.specs.declared.option.Option.{Option}
-pub use Rattle.std.specs.declared.option.Option.TheVariants.{None, Some}
 use Rattle.left_right.specs.Parted.{part_owns, part_shares}
-use Rattle.left_right.proofs.PartSteps.{lent_laws, Lends-part}
-pub use Rattle.halfgates_c.specs.Behind.{borrow_owns, borrow_shares, may_test}
 
 may_test_pure : (p : Ptr) → Pure (may_test p)
 may_test_pure p = λ _. tt
@@ -45,9 +36,6 @@ module _ (R : RattleType) (laws : RowLaws R) where
 
 module _ (R : RattleType) {M : Type 1} {𝓤 : Ura M} {𝓛 : Logic 𝓤} {K : Type 0} {Γ : List (Item 𝓤)}
     {G : Goal 𝓤 𝓛.H} where
-  impossible : K → Seq K 𝓛 (‵ ffalse ∷ Γ) G
-  impossible t = use1 𝓛 (given ⊥ (‵ ftrue)) (never_e 𝓤 _) $ learn t (λ none. absurd none)
-
   -- the two cases of what a reference holds
   pub null_or_borrow : K → (κ : Lft) (p : Ptr) (value : Option R.Denot) (round : ℕ)
       → (p ≡ null_ptr → value ≡ None → Seq K 𝓛 Γ G)

@@ -1,20 +1,11 @@
 -- What a `Slot` owns: nothing at null, or a box of the program's heap.
-use Rattle.halfgates_c.proofs.Walk.{◌≡◌, ℕ, List, ◌∷◌, refl, Ura, Logic, sem, Item, Goal, Seq, ‵, given, ◌$◌, drop, use1, learn, Fml, ftrue, RattleType, Laws, Ptr, block_ptr, null_ptr}
-use mir.Raw.{raw as bare}
-use base.Fml.{ffalse}
+use Rattle.halfgates_c.proofs.Walk.{◌≡◌, ℕ, List, ◌∷◌, refl, Ura, Logic, sem, Item, Goal, Seq, ‵, given, ◌$◌, drop, use1, learn, Fml, RattleType, Laws, Ptr, block_ptr, null_ptr, bare, via, guard_i, snd∗, fact_use, lone, lies_at, Testable, Option, None, Some, box_behind, impossible}
 use base.Fraction.{full_share}
-use base.Logic.{via, guard_i, snd∗, never_e}
-use contract.Monad.{fact_use}
-use denote.Memory.{lone}
-use denote.RawPtr.{lies_at, Testable}
-use Rattle.std.specs.declared.option.Option.{Option}
-pub use Rattle.std.specs.declared.option.Option.TheVariants.{None, Some}
 use Rattle.std.specs.declared.alloc.Global.{Global}
 use Rattle.std.specs.contracts.alloc.Global as global
 use Rattle.std.proofs.alloc.Global.TheLaws as global_laws
 pub use Rattle.std.specs.contracts.impls.GlobalAllocator.TheImpl.{ghosts}
 use Rattle.std.proofs.GlobalToken.{dealloc_token-Testable}
-pub use Rattle.halfgates_c.specs.Behind.{box_behind}
 use Rattle.halfgates_c.proofs.Pair.{box_owns}
 
 -- the allocator of the program's heap
@@ -30,9 +21,6 @@ module _ (R : RattleType) (alloc : Global) where
 
   module _ {M : Type 1} {𝓤 : Ura M} {𝓛 : Logic 𝓤} {K : Type 0} {Γ : List (Item 𝓤)}
       {G : Goal 𝓤 𝓛.H} where
-    impossible : K → Seq K 𝓛 (‵ ffalse ∷ Γ) G
-    impossible t = use1 𝓛 (given ⊥ (‵ ftrue)) (never_e 𝓤 _) $ learn t (λ none. absurd none)
-
     -- the two cases of what lies behind a pointer. The right to free a box's block makes its
     -- pointer one that may be compared with null
     pub null_or_box : K → (at : Ptr) (value : Option R.Denot)

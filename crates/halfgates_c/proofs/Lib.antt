@@ -5,5 +5,6 @@ mod ListLemmas
 mod ManyLemmas
 mod Pair
 mod Recast
+mod Names
 mod Walk
 pub mod ReportLemmas

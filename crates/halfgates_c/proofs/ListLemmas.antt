@@ -1,13 +1,6 @@
 -- Lists of handles, and the things that they hold.
-use Rattle.std.proofs.Common.{◌≡◌, ◌⊎◌, ℕ, ◌+◌, ◌<◌, ℤ, pos, inl, inr, Option, Some, None, List, [], ◌∷◌, ◌++◌, length, map, take, drop, get_or, refl, sym, ◌∙◌, ap}
-use Rattle.std.proofs.lemmas.List.{drop_more, map-append, take-append-drop}
+use Rattle.halfgates_c.proofs.Names.{◌≡◌, ◌⊎◌, ℕ, ◌+◌, ◌<◌, ℤ, pos, inl, inr, Option, Some, List, [], ◌∷◌, ◌++◌, length, map, take, drop, get_or, refl, ap, drop_more, map-append, take-append-drop, Held, Garbling, Job, OfHandles, OfGarbling, OfJob, handle_of, arith}
 use Rattle.halfgates_c.specs.declared.borrow.Borrow.{Borrow}
-use Rattle.gc_job.specs.Job.{JobParts}
-use Rattle.gc_kept.specs.Garbling.{GarblingWith}
-use Rattle.gc_kept.specs.declared.held.Held.{Held}
-use Rattle.gc_kept.specs.declared.held.Held.TheVariants.{Circuit, Garbling, Job, Garbler, Evaluator}
-use Rattle.halfgates_c.specs.Holding.{OfHandles, OfGarbling, OfJob}
-use Rattle.halfgates_c.specs.Borrowing.{handle_of}
 
 -- What is borrowed is what the handles hold.
 pub held_of : (borrows : List (Borrow Held))
@@ -26,32 +19,14 @@ pub record IsSaid {X : Type 0} (OfOne : Option Held → (code : ℤ) → (X → 
 pub garbling_is : IsSaid OfGarbling Garbling
 garbling_is = record {
   of_it = λ it code P so. so;
-  so_too = so_too;
+  so_too = λ held code P Q so said. grind (arith, so, said);
 }
-  where
-    so_too : (held : Option Held) (code : ℤ) (P Q : GarblingWith → Type 0)
-        → ((it : GarblingWith) → P it → Q it) → OfGarbling held code P → OfGarbling held code Q
-    so_too None code P Q so said = said
-    so_too (Some (Circuit it)) code P Q so said = said
-    so_too (Some (Garbling it)) code P Q so said = so it said
-    so_too (Some (Job it)) code P Q so said = said
-    so_too (Some (Garbler it)) code P Q so said = said
-    so_too (Some (Evaluator it)) code P Q so said = said
 
 pub job_is : IsSaid OfJob Job
 job_is = record {
   of_it = λ it code P so. so;
-  so_too = so_too;
+  so_too = λ held code P Q so said. grind (arith, so, said);
 }
-  where
-    so_too : (held : Option Held) (code : ℤ) (P Q : JobParts → Type 0)
-        → ((it : JobParts) → P it → Q it) → OfJob held code P → OfJob held code Q
-    so_too None code P Q so said = said
-    so_too (Some (Circuit it)) code P Q so said = said
-    so_too (Some (Garbling it)) code P Q so said = said
-    so_too (Some (Job it)) code P Q so said = so it said
-    so_too (Some (Garbler it)) code P Q so said = said
-    so_too (Some (Evaluator it)) code P Q so said = said
 
 module _ {X : Type 0} (OfOne : Option Held → (code : ℤ) → (X → Type 0) → Type 0)
     (held_in : X → Held) (is : IsSaid OfOne held_in) where
@@ -83,17 +58,13 @@ module _ {X : Type 0} (OfOne : Option Held → (code : ℤ) → (X → Type 0) �
   all_of (it ∷ things) code P so = is.of_it it code _ (all_of things code (λ its. P (it ∷ its)) so)
 
   -- One in a list holds none.
-  pub until : {Y T : Type 0} (ys : List Y) (ts : List T) (value_in : Y → Option Held) (thing_in : T
-      → X)
-      (i : ℕ) (y : Y) (code : ℤ) → i < length ys → y ≡ get_or ys i y
+  pub until : {Y T : Type 0} (ys : List Y) (ts : List T) (value_in : Y → Option Held)
+      (thing_in : T → X) (i : ℕ) (y : Y) (code : ℤ) → i < length ys → y ≡ get_or ys i y
       → map value_in (take i ys) ≡ map (λ it. Some (held_in it)) (map thing_in ts)
       → OfOne (value_in y) code (λ it. ⊥) → OfHandles OfOne (map value_in ys) code (λ its. ⊥)
   until ys ts value_in thing_in i y code within at before lacks =
       let split : map value_in ys
       ≡ map value_in (take i ys) ++ value_in y ∷ map value_in (drop (i + 1) ys) =
-      ap (map value_in) (sym (take-append-drop i ys)
-      ∙ ap (λ rest. take i ys ++ rest) (drop_more ys i y within
-      ∙ ap (λ z. z ∷ drop (i + 1) ys) (sym at)))
-      ∙ map-append value_in (take i ys) (y ∷ drop (i + 1) ys) in
+      grind (arith, take-append-drop i ys, drop_more ys i y within, map-append) in
       rw (split, before) (first_without (map thing_in ts) (value_in y)
       (map value_in (drop (i + 1) ys)) code lacks)

@@ -1,20 +1,8 @@
 -- The struct of a pointer and an allocator, as the machine holds it. `Box`, `BoxParts` and
 -- `Slot` are such structs.
-use Rattle.halfgates_c.proofs.Walk.{◌≡◌, ℕ, List, [], ◌∷◌, ◌++◌, refl, ap, ◌∙◌, lit<, T, Ura, sem, Logic, Val, vptr, Fml, Item, Goal, Seq, Step, step, ‵, ◌$◌, move, drop, fsplit, fjoin, fpick, fpack, feq_i, feq_l, nothing, layout, Laws, dnil, RattleType, Valss, Ptr, block_ptr, null_ptr, ptr_val}
-use mathlib.Core.Bool.{true, ◌&&◌}
-use mir.Syntax.{impl, tnil}
-use mir.Raw.{raw as bare}
-use mir.Val.{vstruct, vcons, vnil, of_list, has_ty, WT}
+use Rattle.halfgates_c.proofs.Walk.{◌≡◌, ℕ, List, [], ◌∷◌, ◌++◌, refl, ap, ◌∙◌, lit<, T, Ura, sem, Logic, Val, vptr, Fml, Item, Goal, Seq, Step, step, ‵, ◌$◌, move, drop, fsplit, fjoin, fpick, fpack, feq_i, feq_l, nothing, layout, Laws, dnil, RattleType, Valss, Ptr, block_ptr, null_ptr, ptr_val, true, ◌&&◌, impl, tnil, bare, vstruct, vcons, vnil, of_list, has_ty, WT, never, fst∗, fex, fsep, RawPtr, lone, in_a_block, Shape, within, Al, handle_tells, Good}
 pub use mir.ValLaws.{and_in}
-use base.Logic.{never, fst∗}
-use base.Fml.{fex, fsep}
-use denote.Builtin.{RawPtr}
-use denote.Memory.{lone}
-use denote.RawPtr.{in_a_block}
-use denote.Struct.Struct.{Shape, within}
 use Rattle.core.specs.declared.alloc.Allocator.{Ghosts}
-use Rattle.core.proofs.alloc.Calls.{Al, handle_tells}
-pub use Rattle.core.proofs.cell.Inside.{Good}
 pub use Rattle.std_alloc.specs.Box.Ownership.{box_owns}
 
 -- the struct's machine value

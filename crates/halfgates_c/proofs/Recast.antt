@@ -1,12 +1,5 @@
 -- The walk of a function that makes a struct of a pointer from another such struct.
-use Rattle.halfgates_c.proofs.Walk.{◌≡◌, List, [], ◌∷◌, refl, sym, subst, T, Ura, emp, Fml, ftrue, Fn, Callee, Val, Model, Closed, Logic, ‵, ◌$◌, !, keep, rewrite, fact, fact_i, fsplit, fjoin, use0, stop, fld, of_opd, no_more, and_then, returns, alloc_all, pass_all, free_all, look_at, get, get_in, sets, agg, sub, whole, Running, tables, yes, Last, left, RattleType, Ptr, enter_at, takes, met_by, ends}
-use base.Fml.{fsep}
-use mir.Syntax.{Sym, Ty, ty_ptr, ty_struct, tcons, tnil, local, value_local, seq, assign, place, field, copy, rv_opd, aggregate, return}
-use denote.Laws.{Is, shows}
-use denote.Param.Mute.{blank}
-use denote.Steps.{facts}
-use denote.Triple.Clauses.{Clauses, closing}
-use denote.Triple.Spec.{Meets}
+use Rattle.halfgates_c.proofs.Walk.{◌≡◌, List, [], ◌∷◌, refl, sym, subst, T, Ura, emp, Fml, ftrue, Fn, Callee, Val, Model, Closed, Logic, ‵, ◌$◌, !, keep, rewrite, fact, fact_i, fsplit, fjoin, use0, stop, fld, of_opd, no_more, and_then, returns, alloc_all, pass_all, free_all, look_at, get, get_in, sets, agg, sub, whole, Running, tables, yes, Last, left, RattleType, Ptr, enter_at, takes, met_by, ends, fsep, Sym, Ty, ty_ptr, ty_struct, tcons, tnil, local, value_local, seq, assign, place, field, copy, rv_opd, aggregate, return, Is, shows, facts, Clauses, closing, Meets, blank}
 use Rattle.halfgates_c.proofs.Alone.{word, word_fits, Alone, told, made}
 use Rattle.halfgates_c.proofs.Pair.{pointer_fits}
 
@@ -64,8 +57,7 @@ module _ (X Y : RattleType) (r : Recast X Y) where
       Meets 𝓛 (takes 0 X Y yes).signature (𝓣.C self) (closing 𝓛 (takes 0 X Y yes) (terms 𝓤)))
   recast_word 𝓤 𝓛 𝓜 𝓡 self given made_name closed =
       let D : RattleType = Alone [] [] [] in
-      met_by 0 X Y yes 𝓛 (terms 𝓤)
-      (λ x end. subst (λ F. T (blank F)) (sym (r.silent x end)) tt)
+      met_by 0 X Y yes 𝓛 (terms 𝓤) (λ x end. subst (λ F. T (blank F)) (sym (r.silent x end)) tt)
       𝓜 𝓡 self (recast given made_name) closed (λ y are.
       let x : X.Denot = y.0.3.0 in
       let at : Ptr = r.at x in

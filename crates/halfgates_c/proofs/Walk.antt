@@ -2,39 +2,62 @@
 pub use Rattle.std.proofs.Common.{◌≡◌, ℕ, List, [], ◌∷◌, ◌++◌, refl, sym, ap, ◌∙◌, subst, lit<}
 pub use lib.Dec.{T}
 pub use seplogic.Ra.Ura.{Ura}
-pub use base.Logic.{SProp, ent, emp, id⊢}
-pub use base.Fml.{Fml, ftrue}
-pub use mir.Syntax.{Fn, Callee, a_type, dcons, dnil}
-pub use mir.Val.{Val, vptr}
+pub use base.Logic.{SProp, ent, emp, id⊢, never, fst∗, via, guard_i, snd∗, never_e}
+pub use base.Fml.{Fml, ftrue, fex, fsep, ffalse, Lft, flft, fhide}
+pub use mir.Syntax.{Fn, Callee, a_type, dcons, dnil, impl, tnil, Sym, Lifetime, ty_ptr, ty_struct, tcons, Ty, local, value_local, seq, assign, place, field, copy, rv_opd, aggregate, return, Body, int, w8, named}
+pub use mir.Val.{Val, vptr, vstruct, vcons, vnil, of_list, has_ty, WT, vnull}
 pub use mir.MapTy.{inst_fn}
 pub use prog.Model.{Model}
-pub use prog.Wp.{Calls, Loops, WpFn, Closed}
+pub use prog.Wp.{Calls, Loops, WpFn, Closed, Wp, after_seq, at_return}
 pub use types.Logic.{Logic, sem}
-pub use types.Kit.{Item, Goal, Seq, Sq, Step, step, prop, ‵, raw, given, ◌⊛◌, some, later, ◌$◌, !, by, qed, ◌∵◌, runs, allocs, params', at_ret, move, keep, drop, split, split3, join, fsplit, fjoin, pick, fpick, fpack, feq_i, feq_l, use0, use1, learn, await, rewrite}
-pub use types.Run.{enter, stop, fld, lit, of_opd, bin, no_more, and_then, first, branches, blocks, exec, returns}
-pub use types.ByLocal.{alloc_all, pass_all, free_all, look_at, get, get_in, sets, sets_last, env, lands_as, lands_last}
-pub use types.Part.{agg, sub, whole}
-pub use contract.Monad.{fact, fact_i}
+pub use types.Kit.{Item, Goal, Seq, Sq, Step, step, prop, ‵, raw, given, ◌⊛◌, some, later, ◌$◌, !, by, qed, ◌∵◌, runs, allocs, params', at_ret, move, keep, drop, split, split3, join, fsplit, fjoin, pick, fpick, fpack, feq_i, feq_l, use0, use1, learn, await, rewrite, any_q}
+pub use types.Run.{enter, stop, fld, lit, of_opd, bin, no_more, and_then, first, branches, blocks, exec, returns, load, addr}
+pub use types.ByLocal.{alloc_all, pass_all, free_all, look_at, get, get_in, sets, sets_last, env, lands_as, lands_last, through}
+pub use types.Part.{agg, sub, whole, look_in}
+pub use contract.Monad.{fact, fact_i, fact_use}
 pub use contract.Running.{Running, tables}
 pub use denote.Exit.{Kept, yes, no, Last, left}
-pub use denote.RattleType.{RattleType, Valss}
-pub use denote.RawPtr.{Ptr, block_ptr, null_ptr, ptr_val}
-pub use denote.Steps.{nothing, only, heard}
+pub use denote.RattleType.{RattleType, Valss, RowLaws, owns}
+pub use denote.RawPtr.{Ptr, block_ptr, null_ptr, ptr_val, in_a_block, lies_at, Testable, tests_null}
+pub use denote.Steps.{nothing, only, heard, facts, looks, shuts, peeks}
 pub use denote.Param.{param, layout, layouts, bounded}
 pub use denote.Param.Laws.{Laws, param_laws}
-use denote.Param.Mute.{blank}
-use denote.Laws.{Are, Ises}
-use denote.RattleType.{owns}
-use denote.Signature.{types_at, plain}
-use denote.Triple.Clauses.{Ended, Clauses, closing, at_exit}
+pub use denote.Param.Mute.{blank}
+pub use denote.Signature.{types_at, plain}
 pub use denote.Triple.Entry.{alive}
-use denote.Triple.Spec.{Meets}
+pub use mathlib.Core.Bool.{true, ◌&&◌}
+pub use mir.Raw.{raw as bare}
+pub use denote.Builtin.{RawPtr, RefOf}
+pub use denote.Memory.{lone, cell_at, hidden_shr}
+pub use denote.Struct.Struct.{Shape, within, Struct}
+pub use Rattle.core.proofs.alloc.Calls.{Goes-blank, Al, handle_tells}
+pub use Rattle.std.specs.declared.option.Option.{Option}
+pub use Rattle.std.specs.declared.option.Option.TheVariants.{None, Some}
+pub use denote.Struct.Lending.{lent_at, lent_at_shr_laws, Lends, Lends-both, Lends-false, Lends-nothing, Lends-said, of_Lends, lent_out}
+pub use Rattle.left_right.proofs.PartSteps.{lent_laws, Lends-part, part_sees}
+pub use denote.Laws.{Are, Ises, Is, shows}
+pub use denote.Opens.{Opens, hide, unhide}
+pub use denote.Struct.Laws.{RawPtr-copy}
+pub use Rattle.core.proofs.cell.Inside.{Good}
+pub use denote.Triple.Clauses.{Ended, at_exit, Clauses, closing, Lasts, lasts}
+pub use denote.Triple.Spec.{Meets, triple_of}
+pub use types.Match.{live}
+pub use denote.Triple.Walked.{Stays, stay_dropped, walk_of, Goes-dropped}
+pub use Rattle.std.proofs.raw_atomic.Walks.{proved_at, proved, leaves}
+pub use Rattle.core.proofs.alloc.Shapes.{after}
+pub use Rattle.core.proofs.option.Made.{Some-of, none_of}
+pub use denote.Triple.Call.{calls_at_last, calls_at}
+pub use Rattle.core.proofs.atomic.Steps.{fm}
+pub use Rattle.halfgates_c.specs.Behind.{borrow_owns, borrow_shares, may_test, box_behind}
+unfoldable pub use Rattle.halfgates_c.specs.Borrowing.{handle_of}
+pub use Rattle.halfgates_c.specs.declared.handle.Handle.{Handle}
 use denote.Triple.Statement.{Contract}
-use denote.Triple.Walked.{Stays, stay_dropped, walk_of}
-use Rattle.core.proofs.alloc.Calls.{Goes-blank}
-use Rattle.std.proofs.raw_atomic.Walks.{proved_at, leaves}
 
 module _ {M : Type 1} {𝓤 : Ura M} {𝓛 : Logic 𝓤} {K : Type 0} {Γ : List (Item 𝓤)} where
+  -- no case is left where what is known can't be
+  pub impossible : {G : Goal 𝓤 𝓛.H} → K → Seq K 𝓛 (‵ ffalse ∷ Γ) G
+  impossible t = use1 𝓛 (given ⊥ (‵ ftrue)) (never_e 𝓤 _) $ learn t (λ none. absurd none)
+
   -- enters a function of one parameter, whose machine value is known
   pub enter_at : K → (C : Calls 𝓤 𝓛.H) (Λ : Loops 𝓤 𝓛.H) (fn : Fn) (Post : Val → SProp 𝓤)
       → (value : Val) {values : List Val} → values ≡ value ∷ []

@@ -1,5 +1,4 @@
-use Rattle.std.proofs.Common.{◌≡◌, map, take}
-use Rattle.halfgates_c.specs.Each.{outcome_code}
+use Rattle.halfgates_c.proofs.Names.{◌≡◌, map, take, outcome_code}
 use Rattle.halfgates_c.proofs.each.write_codes.Given as goal
 
 abbrev pub invariant-loop-i : goal.invariant-loop-i

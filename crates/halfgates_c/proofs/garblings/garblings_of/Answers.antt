@@ -1,7 +1,4 @@
-use Rattle.std.proofs.Common.{arith, inr}
-use Rattle.std.proofs.lemmas.Result.{err_from_is_err_and}
-use Rattle.gc_kept.specs.declared.held.Held.TheVariants.{Garbling}
-use Rattle.halfgates_c.specs.Holding.{OfGarbling}
+use Rattle.halfgates_c.proofs.Names.{arith, inr, err_from_is_err_and, Garbling, OfGarbling}
 use Rattle.halfgates_c.proofs.ListLemmas.{garbling_is, until}
 use Rattle.halfgates_c.proofs.garblings.garblings_of.Goals as goal
 

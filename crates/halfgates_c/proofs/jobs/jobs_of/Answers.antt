@@ -1,7 +1,4 @@
-use Rattle.std.proofs.Common.{arith, inr}
-use Rattle.std.proofs.lemmas.Result.{err_from_is_err_and}
-use Rattle.gc_kept.specs.declared.held.Held.TheVariants.{Job}
-use Rattle.halfgates_c.specs.Holding.{OfJob}
+use Rattle.halfgates_c.proofs.Names.{arith, inr, err_from_is_err_and, Job, OfJob}
 use Rattle.halfgates_c.proofs.ListLemmas.{job_is, until}
 use Rattle.halfgates_c.proofs.jobs.jobs_of.Goals as goal
 

@@ -1,5 +1,4 @@
-use Rattle.std.proofs.Common.{◌≡◌, ◌≤◌, ◌++◌, length, map, drop}
-use Rattle.halfgates_c.specs.Borrowing.{handle_of}
+use Rattle.halfgates_c.proofs.Names.{◌≡◌, ◌≤◌, ◌++◌, length, map, drop, handle_of}
 use Rattle.halfgates_c.proofs.list.put_all.Given as goal
 
 abbrev pub invariant-loop-borrow : goal.invariant-loop-borrow

@@ -1,6 +1,5 @@
-use Rattle.std.proofs.Common.{◌≡◌, ◌++◌, length, map, drop}
+use Rattle.halfgates_c.proofs.Names.{◌≡◌, ◌++◌, length, map, drop, handle_of}
 use Rattle.std.specs.Vec.{vec_len, vec_capacity}
-use Rattle.halfgates_c.specs.Borrowing.{handle_of}
 use Rattle.halfgates_c.proofs.list.take_all.Given as goal
 
 abbrev pub invariant-loop-i : goal.invariant-loop-i

@@ -1,8 +1,4 @@
-use Rattle.std.proofs.Common.{◌≡◌, ◌∙◌, [], append-nil, subst, sym}
-use Rattle.std.specs.List.{AllZip}
-use Rattle.std.specs.Vec.Iter.{into_iter_items}
-use Rattle.std.proofs.lemmas.List.{nil_from_length}
-use Rattle.halfgates_c.specs.Reading.{HoldsThis}
+use Rattle.halfgates_c.proofs.Names.{◌≡◌, ◌∙◌, [], append-nil, subst, sym, AllZip, into_iter_items, nil_from_length, HoldsThis}
 use Rattle.halfgates_c.proofs.many.handles_of.Goals as goal
 
 pub returns-clause-ok : goal.returns-clause-ok

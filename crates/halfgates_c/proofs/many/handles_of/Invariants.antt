@@ -1,8 +1,4 @@
-use Rattle.std.proofs.Common.{◌≡◌, ◌++◌, List, length}
-use Rattle.std.specs.List.{AllZip}
-use Rattle.std.specs.Vec.Iter.{into_iter_items, into_iter_len}
-use Rattle.halfgates_c.specs.declared.slot.Slot.{Slot}
-use Rattle.halfgates_c.specs.Reading.{HoldsThis}
+use Rattle.halfgates_c.proofs.Names.{◌≡◌, ◌++◌, List, length, AllZip, into_iter_items, into_iter_len, Slot, HoldsThis}
 use Rattle.halfgates_c.proofs.many.handles_of.Given as goal
 
 abbrev pub invariant-loop-garbling : goal.invariant-loop-garbling

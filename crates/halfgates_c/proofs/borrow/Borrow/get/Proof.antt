@@ -1,47 +1,20 @@
 -- `get` reads the pointer and compares it with null. Where a value lies behind it, the value is
 -- shown for as long as the reference is.
-use Rattle.halfgates_c.proofs.Walk.{◌≡◌, ℕ, List, [], ◌∷◌, refl, sym, ap, ◌∙◌, lit<, Val, vptr, a_type, inst_fn, fact, fact_i, emp, RattleType, Ptr, block_ptr, null_ptr, param, param_laws, layout, layouts, tables, ‵, raw, ◌⊛◌, at_ret, ◌$◌, ◌∵◌, !, qed, by, move, keep, drop, split, join, fsplit, fjoin, feq_i, use0, use1, rewrite, nothing, stop, fld, lit, of_opd, bin, no_more, and_then, first, blocks, branches, exec, returns, enter, alloc_all, pass_all, free_all, look_at, get, sets, sets_last, env, agg, sub, whole, yes, ftrue, Fml}
-use mir.Syntax.{Body, seq, assign, place, rv_opd, copy, aggregate, int, w8, named}
-use mir.Val.{vcons, vnil}
-use base.Fml.{Lft, fsep, flft, fhide}
-use prog.Wp.{Wp, after_seq, at_return}
-use types.Kit.{any_q}
-use types.Run.{load, addr}
-use types.ByLocal.{through}
-use types.Part.{look_in}
-use types.Match.{live}
-use denote.Builtin.{RefOf}
-use denote.Laws.{Is, shows}
-use denote.Memory.{cell_at, hidden_shr}
-use denote.Opens.{hide, unhide}
-use denote.RattleType.{owns}
-use denote.RawPtr.{tests_null}
+use Rattle.halfgates_c.proofs.Walk.{◌≡◌, ℕ, List, [], ◌∷◌, refl, sym, ap, ◌∙◌, lit<, Val, vptr, a_type, inst_fn, fact, fact_i, emp, RattleType, Ptr, block_ptr, null_ptr, param, param_laws, layout, layouts, tables, ‵, raw, ◌⊛◌, at_ret, ◌$◌, ◌∵◌, !, qed, by, move, keep, drop, split, join, fsplit, fjoin, feq_i, use0, use1, rewrite, nothing, stop, fld, lit, of_opd, bin, no_more, and_then, first, blocks, branches, exec, returns, enter, alloc_all, pass_all, free_all, look_at, get, sets, sets_last, env, agg, sub, whole, yes, ftrue, Fml, Body, seq, assign, place, rv_opd, copy, aggregate, int, w8, named, vcons, vnil, Lft, fsep, flft, fhide, Wp, after_seq, at_return, any_q, load, addr, through, look_in, live, RefOf, Is, shows, cell_at, hidden_shr, hide, unhide, owns, tests_null, looks, shuts, peeks, lent_at, lent_at_shr_laws, lent_out, Stays, stay_dropped, walk_of, Goes-dropped, proved, leaves, after, Good, Some-of, none_of, part_sees, types_at, plain, None, Some, borrow_shares}
 use denote.Ref.{ShrRef, shr_vals, shr_Tells}
-use denote.Signature.{types_at, plain}
-use denote.Steps.{looks, shuts, peeks}
-use denote.Struct.Lending.{lent_at, lent_at_shr_laws, lent_out}
-use denote.Triple.Walked.{Stays, stay_dropped, walk_of, Goes-dropped}
-use Rattle.std.proofs.raw_atomic.Walks.{proved, leaves}
-use Rattle.core.proofs.alloc.Shapes.{after}
-use Rattle.core.proofs.cell.Inside.{Good}
-use Rattle.core.proofs.option.Made.{Some-of, none_of}
 use Rattle.std.specs.contracts.option.Option as option_type
-use Rattle.left_right.proofs.PartSteps.{part_sees}
 use Rattle.halfgates_c.specs.contracts.borrow.Borrow as borrow_type
-use Rattle.halfgates_c.proofs.BorrowSteps.{None, Some, borrow_shares, null_or_borrow}
+use Rattle.halfgates_c.proofs.BorrowSteps.{null_or_borrow}
 use Rattle.halfgates_c.proofs.Alone.{word, Alone, told, opened}
-use Rattle.halfgates_c.specs.contracts.borrow.Borrow.get.{ended, clauses}
-use Rattle.halfgates_c.specs.contracts.borrow.Borrow.get.Key.{name as #self}
-use Rattle.halfgates_c.proofs.borrow.Borrow.get.Statement.{statement}
-use Rattle.halfgates_c.proofs.borrow.Borrow.get.Code as code
+use Rattle.halfgates_c.specs.contracts.borrow.Borrow.get as spec
+use Rattle.halfgates_c.proofs.borrow.Borrow.get as own
 
 -- the rest of the branch that found a value
 abbrev wraps : Body
-wraps =
-    seq (assign (place 6 []) (rv_opd (copy (place 7 []))))
+wraps = seq (assign (place 6 []) (rv_opd (copy (place 7 []))))
     (assign (place 5 []) (aggregate (int w8 1 ∷ copy (place 6 []) ∷ [])))
 
-pub get_spec : {M : Type 1} → statement M
+pub get_spec : {M : Type 1} → own.Statement.statement M
 get_spec 𝓤 𝓛 𝓜 𝓡 wired X L =
     let H = 𝓛.H in
     let 𝓣 = tables 𝓤 H 𝓜 𝓡 𝓡.env in
@@ -52,14 +25,14 @@ get_spec 𝓤 𝓛 𝓜 𝓡 wired X L =
     let D : RattleType = Alone form.name form.args form.types in
     let told_at = told form.name form.args form.types in
     let opens = opened form.name form.args form.types 𝓛 in
-    let En = ended X in
+    let En = spec.ended X in
     let instance = layouts (a_type ∷ []) (X, tt) in
-    let fn = inst_fn instance code.function in
-    let c = clauses X 𝓛 𝓜.mem 𝓡.returns in
+    let fn = inst_fn instance own.Code.function in
+    let c = spec.clauses X 𝓛 𝓜.mem 𝓡.returns in
     let self = RefOf (0 ∷ []) tt (plain (λ _. Borrow)) (λ _. tt) in
     let hs : Stays En.signature.params En.kept = (stay_dropped self yes, tt) in
-    proved 𝓛 En hs c 𝓜 𝓡 (Goes-dropped 𝓛 2 self yes (λ κs x f. refl), tt) (#self instance) fn
-    (code.unfolded 𝓤 H 𝓜 𝓡 wired (X, tt)) (λ κs. (shr_vals, tt))
+    proved 𝓛 En hs c 𝓜 𝓡 (Goes-dropped 𝓛 2 self yes (λ κs x f. refl), tt) (spec.Key.name instance)
+    fn (own.Code.unfolded 𝓤 H 𝓜 𝓡 wired (X, tt)) (λ κs. (shr_vals, tt))
     (λ κs. (shr_Tells (named 0) κs.0 Borrow, tt)) (λ κs qs bounds a gh are.
     let b : ℕ = a.0.ref_ptr.0 in
     let o : ℕ = a.0.ref_ptr.1 in
@@ -94,8 +67,7 @@ get_spec 𝓤 𝓛 𝓜 𝓡 wired X L =
     move ! (1 ∷ 0 ∷ 2 ∷ []) $ shuts ! tt D q (p, tt) vs b o $
     sets ! (of_opd ! (get ! refl)) refl (tt, record { fits = lit< tt }) $
     sets ! (bin ! (get ! refl) (lit ! tt) tt) refl (tt, tt) $
-    first ! $ branches ! (get ! refl)
-    (λ _.
+    first ! $ branches ! (get ! refl) (λ _.
     let none_fits : Good (layout Out) (live 0 vnil) = (tt, (record { fits = lit< tt }, tt)) in
     sets_last ! (agg ! (and_then ! (lit ! tt) (no_more !))) refl none_fits $
     exec ! 𝓣.C 𝓣.Λ Ev (after 4 fn.body) (at_ret Ev Post) $
@@ -105,8 +77,7 @@ get_spec 𝓤 𝓛 𝓜 𝓡 wired X L =
     use0 𝓛 (raw (fact 𝓤 (borrow.value ≡ None))) (fact_i 𝓤 (borrow.value ≡ None) (emp 𝓤) is_none) $
     nothing ! $ nothing ! $ fjoin ! $
     returns ! (look_at ! 0 refl) $ free_all ! refl $ keep ! (3 ∷ 0 ∷ 2 ∷ 1 ∷ []) $
-    by ! (leaves 𝓛 En hs c y (live 0 vnil) None (tt, tt) (tt, tt)))
-    (λ wrong. absurd wrong))))
+    by ! (leaves 𝓛 En hs c y (live 0 vnil) None (tt, tt) (tt, tt))) (λ wrong. absurd wrong))))
     -- a value
     (λ block offset x at_block is_some may.
     let at : Ptr = block_ptr block offset in
@@ -125,9 +96,7 @@ get_spec 𝓤 𝓛 𝓜 𝓡 wired X L =
     move ! (1 ∷ 0 ∷ 2 ∷ []) $ shuts ! tt D q (p, tt) vs b o $
     sets ! (of_opd ! (get ! refl)) refl (tt, tt) $
     sets ! (bin ! (get ! refl) (lit ! tt) (tests_null at may)) refl (tt, tt) $
-    first ! $ branches ! (get ! refl)
-    (λ wrong. absurd wrong)
-    (λ _.
+    first ! $ branches ! (get ! refl) (λ wrong. absurd wrong) (λ _.
     let Then = any_q (after_seq 𝓤 H
     (Wp 𝓤 H 𝓣.C 𝓣.Λ Ev (after 4 fn.body) (at_return 𝓤 H Ev Post)) (at_return 𝓤 H Ev Post)) in
     let it : Ref.Denot = record { ref_ptr = (block, offset); now = x } in

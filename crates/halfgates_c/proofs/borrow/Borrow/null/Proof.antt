@@ -1,16 +1,11 @@
 -- `null` makes the struct. Nothing lies behind null.
-use Rattle.halfgates_c.proofs.Walk.{◌≡◌, [], ◌∷◌, refl, lit<, a_type, inst_fn, fact, fact_i, emp, alive, RattleType, null_ptr, param, layouts, tables, ‵, raw, ◌⊛◌, ◌$◌, ◌∵◌, !, qed, by, move, keep, split, fjoin, use0, nothing, lit, no_more, and_then, returns, enter, alloc_all, pass_all, free_all, look_at, sets, agg, ftrue}
-use denote.Triple.Walked.{Stays, walk_of}
-use Rattle.std.proofs.raw_atomic.Walks.{proved, leaves}
+use Rattle.halfgates_c.proofs.Walk.{◌≡◌, [], ◌∷◌, refl, lit<, a_type, inst_fn, fact, fact_i, emp, alive, RattleType, null_ptr, param, layouts, tables, ‵, raw, ◌⊛◌, ◌$◌, ◌∵◌, !, qed, by, move, keep, split, fjoin, use0, nothing, lit, no_more, and_then, returns, enter, alloc_all, pass_all, free_all, look_at, sets, agg, ftrue, Stays, walk_of, proved, leaves, None}
 use Rattle.halfgates_c.specs.contracts.borrow.Borrow as borrow_type
-use Rattle.halfgates_c.proofs.BorrowSteps.{None}
 use Rattle.halfgates_c.proofs.Alone.{word, Alone, made}
-use Rattle.halfgates_c.specs.contracts.borrow.Borrow.null.{ended, clauses}
-use Rattle.halfgates_c.specs.contracts.borrow.Borrow.null.Key.{name as #self}
-use Rattle.halfgates_c.proofs.borrow.Borrow.null.Statement.{statement}
-use Rattle.halfgates_c.proofs.borrow.Borrow.null.Code as code
+use Rattle.halfgates_c.specs.contracts.borrow.Borrow.null as spec
+use Rattle.halfgates_c.proofs.borrow.Borrow.null as own
 
-pub null_spec : {M : Type 1} → statement M
+pub null_spec : {M : Type 1} → own.Statement.statement M
 null_spec 𝓤 𝓛 𝓜 𝓡 wired X L =
     let H = 𝓛.H in
     let 𝓣 = tables 𝓤 H 𝓜 𝓡 𝓡.env in
@@ -18,13 +13,13 @@ null_spec 𝓤 𝓛 𝓜 𝓡 wired X L =
     let Borrow : RattleType = borrow_type.the_row R in
     let form = borrow_type.the_type R in
     let D : RattleType = Alone form.name form.args form.types in
-    let En = ended X in
+    let En = spec.ended X in
     let instance = layouts (a_type ∷ []) (X, tt) in
-    let fn = inst_fn instance code.function in
-    let c = clauses X 𝓛 𝓜.mem 𝓡.returns in
+    let fn = inst_fn instance own.Code.function in
+    let c = spec.clauses X 𝓛 𝓜.mem 𝓡.returns in
     let hs : Stays En.signature.params En.kept = tt in
-    proved 𝓛 En hs c 𝓜 𝓡 tt (#self instance) fn (code.unfolded 𝓤 H 𝓜 𝓡 wired (X, tt)) (λ κs. tt)
-    (λ κs. tt) (λ κs qs bounds a gh are.
+    proved 𝓛 En hs c 𝓜 𝓡 tt (spec.Key.name instance) fn
+    (own.Code.unfolded 𝓤 H 𝓜 𝓡 wired (X, tt)) (λ κs. tt) (λ κs. tt) (λ κs qs bounds a gh are.
     let y : (walk_of 𝓛 En hs c).Ghost = ((κs, qs, bounds, a, tt), gh) in
     let Post = (walk_of 𝓛 En hs c).post y in
     qed 𝓛 ((raw (alive 𝓛 En.signature κs qs) ⊛ ‵ ftrue) ∷ raw ((c κs a).requires gh) ∷ []) ∵

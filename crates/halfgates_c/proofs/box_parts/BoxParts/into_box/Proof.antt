@@ -1,22 +1,15 @@
 -- `into_box` gives the pointer and the allocator to `Box::from_raw`.
-use Rattle.halfgates_c.proofs.Walk.{◌≡◌, List, [], ◌∷◌, refl, sym, ap, subst, id⊢, Fml, ftrue, a_type, dcons, dnil, Val, vptr, inst_fn, fact, fact_i, no, RattleType, block_ptr, param, layout, bounded, param_laws, tables, ‵, raw, ◌⊛◌, some, later, at_ret, ◌$◌, !, move, keep, drop, split, split3, join, fjoin, pick, use1, await, rewrite, feq_i, heard, only, stop, fld, of_opd, no_more, and_then, first, blocks, exec, returns, alloc_all, pass_all, free_all, look_at, get, get_in, sets, lands_last, env, sub, whole, enter_at, takes, alive, Walk, met_by, ends}
+use Rattle.halfgates_c.proofs.Walk.{◌≡◌, List, [], ◌∷◌, refl, sym, ap, subst, id⊢, Fml, ftrue, a_type, dcons, dnil, Val, vptr, inst_fn, fact, fact_i, no, RattleType, block_ptr, param, layout, bounded, param_laws, tables, ‵, raw, ◌⊛◌, some, later, at_ret, ◌$◌, !, move, keep, drop, split, split3, join, fjoin, pick, use1, await, rewrite, feq_i, heard, only, stop, fld, of_opd, no_more, and_then, first, blocks, exec, returns, alloc_all, pass_all, free_all, look_at, get, get_in, sets, lands_last, env, sub, whole, enter_at, takes, alive, Walk, met_by, ends, Lasts, lasts, triple_of, calls_at_last, after, fm, Good}
 use contract.BorrowLft.{◌⊑◌}
-use denote.Triple.Clauses.{Lasts, lasts}
-use denote.Triple.Spec.{triple_of}
-use denote.Triple.Call.{calls_at_last}
-use Rattle.core.proofs.alloc.Shapes.{after}
-use Rattle.core.proofs.atomic.Steps.{fm}
 use Rattle.std_alloc.specs.contracts.boxed.Box as box_type
 use Rattle.std_alloc.specs.contracts.boxed.Box.from_raw as callee
 use Rattle.std_alloc.proofs.boxed.Box.from_raw.Met.{met}
 use Rattle.halfgates_c.specs.contracts.box_parts.BoxParts as parts_type
-use Rattle.halfgates_c.proofs.Pair.{Good, box_owns, pair, pair_fits, pair_in, box_out}
-use Rattle.halfgates_c.specs.contracts.box_parts.BoxParts.into_box.{clauses}
-use Rattle.halfgates_c.specs.contracts.box_parts.BoxParts.into_box.Key.{name as #self}
-use Rattle.halfgates_c.proofs.box_parts.BoxParts.into_box.Statement.{statement}
-use Rattle.halfgates_c.proofs.box_parts.BoxParts.into_box.Code as code
+use Rattle.halfgates_c.proofs.Pair.{box_owns, pair, pair_fits, pair_in, box_out}
+use Rattle.halfgates_c.specs.contracts.box_parts.BoxParts.into_box as spec
+use Rattle.halfgates_c.proofs.box_parts.BoxParts.into_box as own
 
-pub into_box_spec : {M : Type 1} → statement M
+pub into_box_spec : {M : Type 1} → own.Statement.statement M
 into_box_spec 𝓤 𝓛 𝓜 𝓡 wired T A T-laws A-laws ghosts allocates drops_value drops_alloc allocator
     glue_value glue_alloc =
     let 𝓣 = tables 𝓤 𝓛.H 𝓜 𝓡 𝓡.env in
@@ -27,10 +20,10 @@ into_box_spec 𝓤 𝓛 𝓜 𝓡 wired T A T-laws A-laws ghosts allocates drops
     let BoxParts : RattleType = parts_type.the_row R Heap ghosts in
     let methods = dcons allocates (dcons drops_value (dcons drops_alloc dnil)) in
     let instance = bounded (a_type ∷ a_type ∷ []) (T, (A, tt)) methods in
-    let fn = inst_fn instance code.function in
-    let terms = clauses T A ghosts allocates drops_value drops_alloc 𝓛 𝓜.mem 𝓡.returns in
-    met_by 2 BoxParts Box no 𝓛 terms (λ x last. tt) 𝓜 𝓡 (#self instance) fn
-    (code.unfolded 𝓤 𝓛.H 𝓜 𝓡 wired (T, (A, tt)) allocates drops_value drops_alloc) (λ y are.
+    let fn = inst_fn instance own.Code.function in
+    let terms = spec.clauses T A ghosts allocates drops_value drops_alloc 𝓛 𝓜.mem 𝓡.returns in
+    met_by 2 BoxParts Box no 𝓛 terms (λ x last. tt) 𝓜 𝓡 (spec.Key.name instance) fn
+    (own.Code.unfolded 𝓤 𝓛.H 𝓜 𝓡 wired (T, (A, tt)) allocates drops_value drops_alloc) (λ y are.
     let lifetimes = y.0.0 in
     let shares = y.0.1 in
     let parts = y.0.3.0 in
@@ -62,7 +55,7 @@ into_box_spec 𝓤 𝓛 𝓜 𝓡 wired T A T-laws A-laws ghosts allocates drops
     -- `Box::from_raw(alloc, at)`
     first ! $ blocks ! $ sets ! (of_opd ! (get ! refl)) refl fits $
     calls_at_last ! (fm 𝓛 𝓜 𝓡) call
-    (met 𝓤 𝓛 𝓜 𝓡 (code.calls-std_alloc::boxed::Box::from_raw 𝓡.env wired)
+    (met 𝓤 𝓛 𝓜 𝓡 (own.Code.calls-std_alloc::boxed::Box::from_raw 𝓡.env wired)
     T A T-laws A-laws ghosts allocates drops_alloc allocator glue_alloc)
     args (and_then ! (get ! refl) (and_then ! (get ! refl) (no_more !))) (λ returned.
     -- what it ensures: a box of this value, with this allocator

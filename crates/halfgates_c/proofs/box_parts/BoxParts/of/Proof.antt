@@ -1,22 +1,15 @@
 -- `of` takes the pointer and the allocator out of the box, and moves them over.
-use Rattle.halfgates_c.proofs.Walk.{◌≡◌, [], ◌∷◌, refl, ap, id⊢, Fml, ftrue, a_type, dcons, dnil, Val, vptr, inst_fn, fact, fact_i, no, RattleType, Ptr, block_ptr, param, bounded, param_laws, ‵, raw, ◌⊛◌, some, later, ◌$◌, !, move, keep, drop, split, split3, join, fjoin, pick, use1, await, rewrite, heard, only, nothing, stop, fld, of_opd, no_more, and_then, returns, alloc_all, pass_all, free_all, look_at, get, get_in, sets, lands_as, agg, sub, whole, enter_at, takes, alive, met_by, ends}
-use base.Fml.{fsep}
-use denote.Builtin.{RawPtr}
+use Rattle.halfgates_c.proofs.Walk.{◌≡◌, [], ◌∷◌, refl, ap, id⊢, Fml, ftrue, a_type, dcons, dnil, Val, vptr, inst_fn, fact, fact_i, no, RattleType, Ptr, block_ptr, param, bounded, param_laws, ‵, raw, ◌⊛◌, some, later, ◌$◌, !, move, keep, drop, split, split3, join, fjoin, pick, use1, await, rewrite, heard, only, nothing, stop, fld, of_opd, no_more, and_then, returns, alloc_all, pass_all, free_all, look_at, get, get_in, sets, lands_as, agg, sub, whole, enter_at, takes, alive, met_by, ends, fsep, RawPtr, triple_of, calls_at, fm}
 use denote.Struct.Tuple.{Tuple}
-use denote.Triple.Spec.{triple_of}
-use denote.Triple.Call.{calls_at}
-use Rattle.core.proofs.atomic.Steps.{fm}
 use Rattle.std_alloc.specs.contracts.boxed.Box as box_type
 use Rattle.std_alloc.specs.contracts.boxed.Box.into_raw_with_allocator as callee
 use Rattle.std_alloc.proofs.boxed.Box.into_raw_with_allocator.Met.{met}
 use Rattle.halfgates_c.specs.contracts.box_parts.BoxParts as parts_type
 use Rattle.halfgates_c.proofs.Pair.{box_owns, pair, pair_fits, fields_own, pair_in, box_out}
-use Rattle.halfgates_c.specs.contracts.box_parts.BoxParts.of.{clauses}
-use Rattle.halfgates_c.specs.contracts.box_parts.BoxParts.of.Key.{name as #self}
-use Rattle.halfgates_c.proofs.box_parts.BoxParts.of.Statement.{statement}
-use Rattle.halfgates_c.proofs.box_parts.BoxParts.of.Code as code
+use Rattle.halfgates_c.specs.contracts.box_parts.BoxParts.of as spec
+use Rattle.halfgates_c.proofs.box_parts.BoxParts.of as own
 
-pub of_spec : {M : Type 1} → statement M
+pub of_spec : {M : Type 1} → own.Statement.statement M
 of_spec 𝓤 𝓛 𝓜 𝓡 wired T A T-laws A-laws ghosts allocates drops_value drops_alloc allocator
     glue_value glue_alloc =
     let R : RattleType = param 0 T in
@@ -27,10 +20,10 @@ of_spec 𝓤 𝓛 𝓜 𝓡 wired T A T-laws A-laws ghosts allocates drops_value
     let Raw : RattleType = Tuple (RawPtr ∷ Heap ∷ []) in
     let methods = dcons allocates (dcons drops_value (dcons drops_alloc dnil)) in
     let instance = bounded (a_type ∷ a_type ∷ []) (T, (A, tt)) methods in
-    let terms = clauses T A ghosts allocates drops_value drops_alloc 𝓛 𝓜.mem 𝓡.returns in
-    met_by 2 Box BoxParts no 𝓛 terms (λ x last. tt) 𝓜 𝓡 (#self instance)
-    (inst_fn instance code.function)
-    (code.unfolded 𝓤 𝓛.H 𝓜 𝓡 wired (T, (A, tt)) allocates drops_value drops_alloc) (λ y are.
+    let terms = spec.clauses T A ghosts allocates drops_value drops_alloc 𝓛 𝓜.mem 𝓡.returns in
+    met_by 2 Box BoxParts no 𝓛 terms (λ x last. tt) 𝓜 𝓡 (spec.Key.name instance)
+    (inst_fn instance own.Code.function)
+    (own.Code.unfolded 𝓤 𝓛.H 𝓜 𝓡 wired (T, (A, tt)) allocates drops_value drops_alloc) (λ y are.
     let lifetimes = y.0.0 in
     let shares = y.0.1 in
     let held = y.0.3.0 in
@@ -54,7 +47,7 @@ of_spec 𝓤 𝓛 𝓜 𝓡 wired T A T-laws A-laws ghosts allocates drops_value
     -- `Box::into_raw_with_allocator(held)`
     sets ! (of_opd ! (get ! refl)) refl given_fits $
     calls_at ! (fm 𝓛 𝓜 𝓡) call
-    (met 𝓤 𝓛 𝓜 𝓡 (code.calls-std_alloc::boxed::Box::into_raw_with_allocator 𝓡.env wired)
+    (met 𝓤 𝓛 𝓜 𝓡 (own.Code.calls-std_alloc::boxed::Box::into_raw_with_allocator 𝓡.env wired)
     T A T-laws A-laws ghosts allocates drops_alloc drops_value allocator glue_alloc glue_value)
     args (and_then ! (get ! refl) (no_more !)) (λ returned.
     -- what it ensures: the box's allocator, and a pointer that the box lies behind

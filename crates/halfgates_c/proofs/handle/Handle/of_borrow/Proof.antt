@@ -1,25 +1,20 @@
 -- `of_borrow` casts the pointer. The right to read what lies behind it stays.
-use Rattle.std.proofs.Common.{◌≡◌, refl}
-use denote.RattleType.{RattleType}
+use Rattle.halfgates_c.proofs.Walk.{◌≡◌, refl, RattleType, borrow_owns, handle_of, Handle}
 use Rattle.gc_kept.specs.contracts.held.Held as held_type
 use Rattle.gc_kept.specs.declared.held.Held.{Held}
-use Rattle.halfgates_c.specs.Behind.{borrow_owns}
-use Rattle.halfgates_c.specs.Borrowing.{handle_of}
 use Rattle.halfgates_c.specs.declared.borrow.Borrow.{Borrow}
 use Rattle.halfgates_c.specs.contracts.borrow.Borrow as borrow_type
-use Rattle.halfgates_c.specs.declared.handle.Handle.{Handle}
 use Rattle.halfgates_c.specs.contracts.handle.Handle as handle_type
-use Rattle.halfgates_c.specs.contracts.handle.Handle.of_borrow.Key.{name as #self}
 use Rattle.halfgates_c.proofs.Recast.{Recast, recast_word}
-use Rattle.halfgates_c.proofs.handle.Handle.of_borrow.Statement.{statement}
-use Rattle.halfgates_c.proofs.handle.Handle.of_borrow.Code as code
+use Rattle.halfgates_c.specs.contracts.handle.Handle.of_borrow as spec
+use Rattle.halfgates_c.proofs.handle.Handle.of_borrow as own
 
 is_handle_of : (x : Borrow Held) → ◌≡◌ {A = Handle}
     (record { at = x.at; held = x.value; round = x.round; parts = x.parts }) (handle_of x)
 unfolding handle_of
 is_handle_of x = refl
 
-pub of_borrow_spec : {M : Type 1} → statement M
+pub of_borrow_spec : {M : Type 1} → own.Statement.statement M
 of_borrow_spec 𝓤 𝓛 𝓜 𝓡 wired =
     let held_row : RattleType = held_type.the_row in
     let borrow_row : RattleType = borrow_type.the_row held_row in
@@ -35,4 +30,5 @@ of_borrow_spec 𝓤 𝓛 𝓜 𝓡 wired =
       last = λ x. tt;
       silent = λ x end. refl;
     } in
-    recast_word borrow_row handle_row it 𝓤 𝓛 𝓜 𝓡 #self _ _ (code.unfolded 𝓤 𝓛.H 𝓜 𝓡 wired)
+    recast_word borrow_row handle_row it 𝓤 𝓛 𝓜 𝓡 spec.Key.name _ _
+    (own.Code.unfolded 𝓤 𝓛.H 𝓜 𝓡 wired)

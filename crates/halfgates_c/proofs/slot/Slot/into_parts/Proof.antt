@@ -1,34 +1,26 @@
 -- `into_parts` compares the pointer with null. Where a box lies behind it, it casts the pointer and moves the
 -- allocator over.
-use Rattle.halfgates_c.proofs.Walk.{[], ◌∷◌, refl, ap, ◌∙◌, lit<, Val, vptr, fact_i, yes, RattleType, Ptr, block_ptr, null_ptr, ptr_val, layout, tables, ‵, ◌$◌, !, keep, drop, use0, use1, at_ret, stop, fld, lit, of_opd, bin, no_more, and_then, first, branches, exec, returns, alloc_all, pass_all, free_all, look_at, get, get_in, sets, sets_last, env, agg, sub, whole, enter_at, Walk, met_by, ends}
-use mathlib.Core.Bool.{true}
-use mir.Val.{vnull, vcons, vnil}
-use types.Match.{live}
-use denote.RawPtr.{tests_null}
-use Rattle.core.proofs.alloc.Shapes.{after}
-use Rattle.core.proofs.option.Made.{Some-of, none_of}
+use Rattle.halfgates_c.proofs.Walk.{[], ◌∷◌, refl, ap, ◌∙◌, lit<, Val, vptr, fact_i, yes, RattleType, Ptr, block_ptr, null_ptr, ptr_val, layout, tables, ‵, ◌$◌, !, keep, drop, use0, use1, at_ret, stop, fld, lit, of_opd, bin, no_more, and_then, first, branches, exec, returns, alloc_all, pass_all, free_all, look_at, get, get_in, sets, sets_last, env, agg, sub, whole, enter_at, Walk, met_by, ends, true, vnull, vcons, vnil, live, tests_null, after, Some-of, none_of, Good, None, Some, box_behind}
 use Rattle.std.specs.contracts.option.Option as option_type
 use Rattle.halfgates_c.specs.contracts.box_parts.BoxParts as parts_type
 use Rattle.gc_kept.specs.contracts.held.Held as held_type
 use Rattle.halfgates_c.specs.contracts.slot.Slot as slot_type
-use Rattle.halfgates_c.proofs.Pair.{Good, and_in, pair, pair_fits, pair_out, pair_in}
-use Rattle.halfgates_c.proofs.BoxSteps.{None, Some, ghosts, box_behind, Heap, heap_laws, box_at, null_or_box}
-use Rattle.halfgates_c.specs.contracts.slot.Slot.into_parts.{clauses}
-use Rattle.halfgates_c.specs.contracts.slot.Slot.into_parts.Key.{name as #self}
-use Rattle.halfgates_c.proofs.slot.Slot.into_parts.Statement.{statement}
-use Rattle.halfgates_c.proofs.slot.Slot.into_parts.Code as code
+use Rattle.halfgates_c.proofs.Pair.{and_in, pair, pair_fits, pair_out, pair_in}
+use Rattle.halfgates_c.proofs.BoxSteps.{ghosts, Heap, heap_laws, box_at, null_or_box}
+use Rattle.halfgates_c.specs.contracts.slot.Slot.into_parts as spec
+use Rattle.halfgates_c.proofs.slot.Slot.into_parts as own
 
-pub into_parts_spec : {M : Type 1} → statement M
+pub into_parts_spec : {M : Type 1} → own.Statement.statement M
 into_parts_spec 𝓤 𝓛 𝓜 𝓡 wired =
     let 𝓣 = tables 𝓤 𝓛.H 𝓜 𝓡 𝓡.env in
     let R : RattleType = held_type.the_row in
     let BoxParts : RattleType = parts_type.the_row R Heap ghosts in
     let Slot : RattleType = slot_type.the_row in
     let Result : RattleType = option_type.the_row BoxParts in
-    let fn = code.function in
-    let terms = clauses 𝓛 𝓜.mem 𝓡.returns in
-    met_by 0 Slot Result yes 𝓛 terms (λ x last. tt) 𝓜 𝓡 #self fn
-    (code.unfolded 𝓤 𝓛.H 𝓜 𝓡 wired) (λ y are.
+    let fn = own.Code.function in
+    let terms = spec.clauses 𝓛 𝓜.mem 𝓡.returns in
+    met_by 0 Slot Result yes 𝓛 terms (λ x last. tt) 𝓜 𝓡 spec.Key.name fn
+    (own.Code.unfolded 𝓤 𝓛.H 𝓜 𝓡 wired) (λ y are.
     let slot = y.0.3.0 in
     let alloc = slot.alloc in
     let Post = (Walk 0 Slot Result yes 𝓛 terms).post y in
@@ -48,16 +40,14 @@ into_parts_spec 𝓤 𝓛 𝓜 𝓡 wired =
     sets ! (of_opd ! (get_in ! (fld ! refl (stop !)) (sub ! 1 refl (whole !)))) refl fits $
     -- `at.is_null()` holds
     sets ! (bin ! (get ! refl) (lit ! tt) tt) refl (tt, tt) $
-    first ! $ branches ! (get ! refl)
-    (λ _.
+    first ! $ branches ! (get ! refl) (λ _.
     -- `None`
     sets_last ! (agg ! (and_then ! (lit ! tt) (no_more !))) refl none_fits $
     exec ! 𝓣.C 𝓣.Λ (env fn.locals l) (after 4 fn.body) (at_ret _ Post) $
     sets ! (of_opd ! (get ! refl)) refl none_fits $
     drop ! $ use0 𝓛 (‵ (Result.own_val None (none ∷ []))) (none_of 𝓛 BoxParts) $
     returns ! (look_at ! 0 refl) $ free_all ! refl $ keep ! (0 ∷ 1 ∷ []) $
-    ends 0 Slot Result yes 𝓛 terms y none None tt (fact_i 𝓤 _ _ is_none))
-    (λ wrong. absurd wrong)))
+    ends 0 Slot Result yes 𝓛 terms y none None tt (fact_i 𝓤 _ _ is_none)) (λ wrong. absurd wrong)))
     -- a box
     (λ block offset x at_block is_some may_test.
     let at = block_ptr block offset in
@@ -74,9 +64,7 @@ into_parts_spec 𝓤 𝓛 𝓜 𝓡 wired =
     sets ! (of_opd ! (get_in ! (fld ! refl (stop !)) (sub ! 1 refl (whole !)))) refl fits $
     -- `at.is_null()` doesn't hold
     sets ! (bin ! (get ! refl) (lit ! tt) (tests_null at may_test)) refl (tt, tt) $
-    first ! $ branches ! (get ! refl)
-    (λ wrong. absurd wrong)
-    (λ _.
+    first ! $ branches ! (get ! refl) (λ wrong. absurd wrong) (λ _.
     -- `at as *mut Held`
     sets ! (of_opd ! (get ! refl)) refl (tt, tt) $
     -- `Some(BoxParts { at, alloc })`

@@ -1,23 +1,21 @@
 -- `of_parts` casts the pointer and moves the allocator over. The box that the parts own is now behind the pointer.
-use Rattle.halfgates_c.proofs.Walk.{[], ◌∷◌, refl, Val, vptr, fact_i, yes, block_ptr, RattleType, ◌$◌, !, keep, alloc_all, pass_all, free_all, stop, fld, of_opd, no_more, and_then, returns, look_at, get, get_in, sets, agg, sub, whole, enter_at, met_by, ends}
+use Rattle.halfgates_c.proofs.Walk.{[], ◌∷◌, refl, Val, vptr, fact_i, yes, block_ptr, RattleType, ◌$◌, !, keep, alloc_all, pass_all, free_all, stop, fld, of_opd, no_more, and_then, returns, look_at, get, get_in, sets, agg, sub, whole, enter_at, met_by, ends, Some, box_behind}
 use Rattle.gc_kept.specs.contracts.held.Held as held_type
 use Rattle.halfgates_c.specs.contracts.box_parts.BoxParts as parts_type
 use Rattle.halfgates_c.specs.contracts.slot.Slot as slot_type
 use Rattle.halfgates_c.proofs.Pair.{pair, pair_fits, pair_in, box_out}
-use Rattle.halfgates_c.proofs.BoxSteps.{Some, ghosts, box_behind, Heap, heap_laws}
-use Rattle.halfgates_c.specs.contracts.slot.Slot.of_parts.{clauses}
-use Rattle.halfgates_c.specs.contracts.slot.Slot.of_parts.Key.{name as #self}
-use Rattle.halfgates_c.proofs.slot.Slot.of_parts.Statement.{statement}
-use Rattle.halfgates_c.proofs.slot.Slot.of_parts.Code as code
+use Rattle.halfgates_c.proofs.BoxSteps.{ghosts, Heap, heap_laws}
+use Rattle.halfgates_c.specs.contracts.slot.Slot.of_parts as spec
+use Rattle.halfgates_c.proofs.slot.Slot.of_parts as own
 
-pub of_parts_spec : {M : Type 1} → statement M
+pub of_parts_spec : {M : Type 1} → own.Statement.statement M
 of_parts_spec 𝓤 𝓛 𝓜 𝓡 wired =
     let R : RattleType = held_type.the_row in
     let BoxParts : RattleType = parts_type.the_row R Heap ghosts in
     let Slot : RattleType = slot_type.the_row in
-    let terms = clauses 𝓛 𝓜.mem 𝓡.returns in
-    met_by 0 BoxParts Slot yes 𝓛 terms (λ x last. tt) 𝓜 𝓡 #self code.function
-    (code.unfolded 𝓤 𝓛.H 𝓜 𝓡 wired) (λ y are.
+    let terms = spec.clauses 𝓛 𝓜.mem 𝓡.returns in
+    met_by 0 BoxParts Slot yes 𝓛 terms (λ x last. tt) 𝓜 𝓡 spec.Key.name own.Code.function
+    (own.Code.unfolded 𝓤 𝓛.H 𝓜 𝓡 wired) (λ y are.
     let parts = y.0.3.0 in
     let alloc = parts.alloc in
     -- the parameter is a pair, of a pointer into a block and an allocator, and owns a box
