@@ -5,9 +5,5 @@ use Rattle.halfgates_c.proofs.each.halfgates_evaluate_each.Goals as goal
 pub returns-clause-answer : goal.returns-clause-answer
 returns-clause-answer c =
     let code = c.evaluate_held-code in
-    rw (
-      to_z-of_z w32 code.result (search rules),
-      c.in-Ok.ensures.taken,
-      held_of c.in-Ok.borrows.items,
-      ← c.deref.ensures.value,
-    ) code.ensures.answer
+    let is = to_z-of_z w32 code.result (search rules) in
+    rw (is, c.in-Ok.ensures.taken, held_of, ← c.deref.ensures.value) code.ensures.answer
