@@ -1,5 +1,5 @@
 -- The reads of a circuit: linking them, and counting down the gates that read a wire.
-use Rattle.gc_store.proofs.Names.{◌≡◌, ℕ, ◌+◌, ◌<◌, inl, inr, List, length, length-set, set, get_or, replicate, ◌∙◌, arith, ◌≢◌, ◌-◌, ◌*◌, ◌/◌, ◌≤◌, slice_get, Option, Some, ltb, ◌==◌, if◌then◌else◌, refl, length-replicate, cases_eq, get_or-set_same, get_or-set_other, get_or-replicate, get_or_read, get_or_past, slice_get_within, nat_tests, Netlist, IsLawful, first_wire, second_wire, EachRead-below, Operation, Gate, read_count, IsReadOf, IsNextRead, IsLinkedFrom, picked, reads_of}
+use Rattle.gc_store.proofs.Names.{◌≡◌, ℕ, ◌+◌, ◌<◌, inl, inr, List, length, length-set, set, get_or, ◌∙◌, arith, ◌≢◌, ◌-◌, ◌*◌, ◌/◌, ◌≤◌, slice_get, Option, Some, ltb, ◌==◌, if◌then◌else◌, refl, cases_eq, get_or-set_same, get_or-set_other, get_or_read, get_or_past, slice_get_within, nat_tests, Netlist, IsLawful, first_wire, second_wire, EachRead-below, Operation, Gate, read_count, IsReadOf, IsNextRead, IsLinkedFrom, picked, reads_of}
 
 -- a read is one of a circuit's reads,
 IsReadOf-within : (c : Netlist) (r w : ℕ) → IsReadOf c r w → r < read_count c
@@ -13,13 +13,6 @@ IsReadOf-same c r v w one two = grind (arith, one.which, two.which)
 skipped : (c : Netlist) (w m n r : ℕ) → n ≡ m + 1 → ¬ IsReadOf c m w → IsNextRead c w n r
     → IsNextRead c w m r
 skipped c w m n r one not next = grind (arith, cases_eq, next.none_between)
-
--- at first no read is linked
-pub unlinked : (c : Netlist) (reads wires : ℕ) (firsts nexts : List ℕ) → reads ≡ read_count c
-    → wires ≡ c.wires → firsts ≡ replicate wires reads → nexts ≡ replicate reads reads
-    → IsLinkedFrom c reads firsts nexts
-unlinked c reads wires firsts nexts count all firsts_are nexts_are =
-    grind (arith, length-replicate, get_or-replicate, slice_get_within)
 
 -- one read more, read m: n is the read after it
 module _ (c : Netlist) (lawful : IsLawful c) (m n : ℕ) (firsts nexts : List ℕ) (one : n ≡ m + 1)

@@ -58,8 +58,8 @@ module _ {c : Netlist} {seed : List ℕ} {r : ℕ} {t : Tables} (kept : IsKept c
       → task.second ≡ second_read (slice_index t.zero_labels) g.operation → IsOwnTask s task
   own_task task g reads at op number offset first second =
       let within = slice_get_within c.gates task.gate g at in
-      let numbers = read-table (and_number c) (length c.gates) task.gate task.and_number within in
-      grind (arith, numbers, kept.and_numbers, reads.at, reads.reads, known_label_is, kept.offset_is)
+      let table = read-table (and_number c) (length c.gates) task.gate task.and_number within in
+      grind (arith, table, kept.and_numbers, reads.at, reads.reads, known_label_is, kept.offset_is)
 
   -- a gate's mark is claimed where its state is
   pub claimed_is : (i : ℕ) → (slice_get t.marks i ≡ Some mark.Claimed) ↔ IsClaimed s i

@@ -224,24 +224,17 @@ module _ {c : Netlist} {seed : List ℕ} {r : ℕ} {t : Tables} (kept : IsKept c
 
 -- ---- opening
 
--- the countdowns that are handed to the opening are one for each gate,
-pub opening_count : (c : Netlist) (opening : List ℕ)
-    → opening ≡ map (opening_countdown c) (range_with_len 0 (length c.gates))
-    → length opening ≡ length c.gates
-opening_count c = length-table (opening_countdown c) (length c.gates)
+module _ (c : Netlist) (opening : List ℕ)
+    (is : opening ≡ map (opening_countdown c) (range_with_len 0 (length c.gates))) where
+  -- the countdowns that are handed to the opening are one for each gate,
+  pub opening_count : length opening ≡ length c.gates
+  opening_count = length-table (opening_countdown c) (length c.gates) opening is
 
--- none of them 0
-pub opening_positive : (c : Netlist) (opening : List ℕ)
-    → opening ≡ map (opening_countdown c) (range_with_len 0 (length c.gates))
-    → (i : ℕ) → i < length opening → 0 < get_or opening i 0
-opening_positive c opening is i within =
-    let below : i < length c.gates = omega (arith, opening_count c opening is) in
-    let read = read-table (opening_countdown c) (length c.gates) i 0 below in grind arith
-
--- the input wires are known at first, and no others
-known_at_first : (c : Netlist) (seed : List ℕ) (w : ℕ)
-    → IsTrue (is_below (input_wires c) w) ↔ IsKnown (opened c seed) w
-known_at_first c seed w = grind (arith, nat_tests, slice_get-replicate)
+  -- none of them 0
+  pub opening_positive : (i : ℕ) → i < length opening → 0 < get_or opening i 0
+  opening_positive i within =
+      let below : i < length c.gates = omega (arith, opening_count) in
+      let read = read-table (opening_countdown c) (length c.gates) i 0 below in grind arith
 
 module _ (c : Netlist) (seed : List ℕ) (t : Tables) (links : IsLinked c t.firsts t.nexts)
     (queue : Queues c t.marks t.countdowns)
@@ -265,7 +258,8 @@ module _ (c : Netlist) (seed : List ℕ) (t : Tables) (links : IsLinked c t.firs
     marks = ap length queue.marks ∙ length-replicate (length c.gates) mark.Free;
     links = links;
     known = is_below (input_wires c);
-    marks_known = λ w. rw (states, no_ands) (known_at_first c seed w);
+    -- the input wires are known at first, and no others
+    marks_known = λ w. rw (states, no_ands) (grind (arith, nat_tests, slice_get-replicate));
     countdowns = queue.countdowns.count;
     counted = λ i g at.
         let opening = slice_get-table (opening_countdown c) (length c.gates) i

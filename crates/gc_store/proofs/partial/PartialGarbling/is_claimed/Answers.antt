@@ -1,14 +1,12 @@
 use Rattle.gc_store.proofs.Names.{arith, nat_tests, slice_get_within}
-use mathlib.Core.Logic.Iff
 use Rattle.gc_store.proofs.StoreLemmas.{claimed_is, claimed_reads}
 use Rattle.gc_store.proofs.partial.PartialGarbling.is_claimed.Goals as goal
 
 pub returns-then-i-gates : goal.returns-then-i-gates
 returns-then-i-gates g c =
     let kept = c.self.invariant.kept in
-    let is = Iff.trans c.is_claimed.ensures (claimed_is kept c.args.i) in
     rw (← c.self.view_is)
-    (record { claimed = is; reads = λ yes. claimed_reads kept c.args.i (is.0 yes) })
+    (grind (arith, c.is_claimed.ensures, claimed_is kept c.args.i, claimed_reads kept c.args.i))
 
 pub returns-else-i-gates : goal.returns-else-i-gates
 returns-else-i-gates g c =

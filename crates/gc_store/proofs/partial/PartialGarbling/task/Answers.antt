@@ -5,8 +5,7 @@ use Rattle.gc_store.proofs.partial.PartialGarbling.task.Goals as goal
 pub labels_read-first-requires : goal.labels_read-first-requires
 labels_read-first-requires g c =
     let kept = c.self.invariant.kept in
-    let count = label_count kept in
-    rw (c.deref.ensures.value, count)
+    rw (c.deref.ensures.value, label_count kept)
     (EachRead-below _ kept.lawful.circuit _ _ c.gate-operation.ensures)
 
 pub index-requires : goal.index-requires
