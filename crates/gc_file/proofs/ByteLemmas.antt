@@ -6,18 +6,11 @@ use Rattle.std.proofs.lemmas.Bool.Decides.{nat_tests}
 use Rattle.std.proofs.Math.Nat.{pow-suc}
 use Rattle.gc_half.specs.Entry.{entry_of}
 use Rattle.gc_file.proofs.ListLemmas.{flat_map-ranges}
+use Rattle.gc_file.proofs.PackLemmas.{bits_number-below}
 
 -- The lesser of two numbers, as code takes it.
 pub ord_min-nat : (a b : ℕ) → ord_min nat_cmp a b ≡ min a b
 ord_min-nat a b = grind (arith, nat_tests)
-
--- The number of n bits is below 2 ^ n.
-bits_number-below : (n : ℕ) (bits : List Bool) → length bits ≤ n → bits_number bits < 2 ^ n
-bits_number-below zero [] few = omega arith
-bits_number-below (suc n) [] few = omega (arith, bits_number-below n [] (omega arith), pow-suc 2 n)
-bits_number-below zero (bit ∷ bits) few = absurd (omega arith)
-bits_number-below (suc n) (bit ∷ bits) few =
-    let rest = bits_number-below n bits (omega arith) in grind (arith, pow-suc 2 n)
 
 -- Without the first of its bits a byte is below 2 ^ 7.
 pub bits_number-later : (bits : List Bool) (first i : ℕ) → 0 < i →
@@ -44,13 +37,6 @@ bits_number-last bits first i bit at low =
         bits_number (bit ∷ rest) ≡ bool_byte bit + 2 * bits_number rest
     cases false rest = refl
     cases true rest = refl
-
--- What is in each byte.
-pub packed-at : (bits : List Bool) (k d : ℕ) → k < bytes_for (length bits) →
-    get_or (packed bits) k d ≡ bits_number (take 8 (drop (8 * k) bits))
-unfolding packed
-packed-at bits k d within =
-    get_or-map-range_with_len _ 0 (bytes_for (length bits)) k k d within (omega arith)
 
 -- There are as many decode bits as output wires.
 pub length-decode_bits : (g : GarblingParts) → g.outputs ≤ length g.zero_labels
