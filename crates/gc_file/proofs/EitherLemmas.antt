@@ -1,9 +1,9 @@
 -- Bytes are a garbled file or have a first fault.
-use Rattle.gc_file.proofs.Names.{◌≡◌, ℕ, ◌-◌, ◌*◌, ◌%◌, ◌^◌, ◌≤◌, ◌⊎◌, inl, inr, List, ◌++◌, length, take, drop, Bool, true, false, bytes_eq, slice_index, refl, sym, ap, ◌∙◌, append_assoc, arith, cases_lt, take-append-drop, take-take, take_all, length-take, length-drop, length-take-le, MAX_GATES, MAX_WIRES, FileFault, BadMagic, Truncated, Trailing, CountTooLarge, SpareBits, BadTrailer, Version, bytes_for, GarbledParts, magic, entry_count, IsGarbledFile, MatchesMagic, row_count, output_count, decode_end, trailer_end, IsTrailerRight, HasHeader, HasSpareBit, HasDecodeBits, LastingFault, bad_magic, too_many_rows, too_many_outputs, spare_bits, bad_trailer, trailing, IsHeaderInOrder, IsInOrder, FirstGarbledFault, lasting, truncated, version_of_bytes, row_size, decode_size, entry_size, AreBytes, u32_at-append, version_of_bytes-begun}
+use Rattle.gc_file.proofs.Names.{◌≡◌, ℕ, ◌-◌, ◌*◌, ◌%◌, ◌^◌, ◌≤◌, ◌⊎◌, inl, inr, List, ◌++◌, length, take, drop, Bool, true, false, bytes_eq, slice_index, refl, sym, ap, ◌∙◌, append_assoc, arith, cases_lt, take-append-drop, take-take, take_all, length-take, length-drop, length-take-le, MAX_GATES, MAX_WIRES, FileFault, BadMagic, Truncated, Trailing, CountTooLarge, SpareBits, BadTrailer, Version, bytes_for, GarbledParts, magic, entry_count, IsGarbledFile, MatchesMagic, row_count, output_count, decode_end, trailer_end, IsTrailerRight, HasHeader, HasSpareBit, HasDecodeBits, LastingFault, bad_magic, too_many_rows, too_many_outputs, spare_bits, bad_trailer, trailing, IsHeaderInOrder, IsInOrder, FirstGarbledFault, lasting, truncated, version_of_bytes, row_size, decode_size, entry_size, AreBytes, version_of_bytes-begun}
 use Rattle.std.specs.Bool.{Decides}
 use Rattle.std.proofs.lemmas.Slice.Eq.{bytes_eq-Decides}
 use Rattle.gc_file.specs.declared.parts.Version.TheVariants.{One, Two}
-use Rattle.gc_file.proofs.PlaceLemmas.{begins, begun, spare, is_right}
+use Rattle.gc_file.proofs.PlaceLemmas.{IsDecoded, begins, begun, rows_is, outputs_is, spare, is_right}
 use Rattle.gc_file.proofs.FileLemmas.{file_is}
 use Rattle.gc_file.proofs.ItemLemmas.{small, AreBytes-take, AreBytes-drop, items_spelled, row_spelling, entry_spelling}
 use Rattle.gc_file.proofs.OneFile.{header_in, after_rows, after_decode, parts_in}
@@ -39,22 +39,21 @@ module _ (v : Version) (b : List ℕ) (are : AreBytes b) (in_order : IsInOrder v
       ∙ begins v b (omega arith) in_order.header.begun)
 
   rows : row_count h ≡ row_count b
-  rows = sym (u32_at-append 40 h (drop 48 b) (omega (arith, whole)))
-      ∙ ap row_count (take-append-drop 48 b)
+  rows = sym (rw cut at (rows_is h r d e t whole))
 
   outputs : output_count h ≡ output_count b
-  outputs = sym (u32_at-append 44 h (drop 48 b) (omega (arith, whole)))
-      ∙ ap output_count (take-append-drop 48 b)
+  outputs = sym (rw cut at (outputs_is h r d e t whole))
 
   sizes : (row_size h ≡ 32 * row_count b) × (decode_size h ≡ bytes_for (output_count b))
       × (entry_size h ≡ 32 * entry_count v (output_count b))
   sizes = rw (version, rows, outputs) (refl, refl, refl)
 
-  rows_full : length r ≡ row_size h
-  rows_full = omega (arith, sizes, length-take {A = ℕ}, length-drop {A = ℕ})
-
-  decode_full : length d ≡ decode_size h
-  decode_full = omega (arith, sizes, length-take {A = ℕ}, length-drop {A = ℕ})
+  decoded : IsDecoded h r d
+  decoded = record {
+    header = whole;
+    rows = omega (arith, sizes, length-take {A = ℕ}, length-drop {A = ℕ});
+    decode = omega (arith, sizes, length-take {A = ℕ}, length-drop {A = ℕ});
+  }
 
   entries_full : length e ≡ entry_size h
   entries_full = omega (arith, sizes, length-take {A = ℕ}, length-drop {A = ℕ})
@@ -69,24 +68,22 @@ module _ (v : Version) (b : List ℕ) (are : AreBytes b) (in_order : IsInOrder v
       let are_rest = AreBytes-drop 48 b are in
       let are_decode = AreBytes-drop (row_size h) (drop 48 b) are_rest in
       let are_entries = AreBytes-drop (decode_size h) (after_rows b) are_decode in
-      let row_items = items_spelled row_spelling (row_count h) r rows_full
+      let row_items = items_spelled row_spelling (row_count h) r decoded.rows
       (AreBytes-take (row_size h) (drop 48 b) are_rest) in
       let entry_items = items_spelled entry_spelling (entry_count (version_of_bytes h)
       (output_count h)) e
       entries_full (AreBytes-take (entry_size h) (after_decode b) are_entries) in
-      rw cut at (file_is h r d e t (parts_in b) whole
+      rw cut at (file_is h r d e t (parts_in b) decoded
       (record {
         begun = rw version (begun v h (omega (arith, whole)) (take-take 8 48 b (omega arith)
             ∙ begins v b (omega arith) in_order.header.begun));
         few_rows = λ long. rw rows (in_order.header.few_rows (omega arith));
         few_outputs = λ long. rw outputs (in_order.header.few_outputs (omega arith));
       })
-      rows_full decode_full entries_full
-      (λ is. in_order.no_spare_bit (omega arith)
-      (rw cut at (spare h r d e t whole rows_full decode_full is)))
-      (is_right h r d e t whole rows_full decode_full entries_full t
-      (take_all 32 t (omega (arith, trailer_full)))
-      (rw (cut, version) (in_order.right (omega arith))))
+      entries_full
+      (λ is. in_order.no_spare_bit (omega arith) (rw cut at (spare h r d e t decoded is)))
+      (sym (take_all 32 t (omega (arith, trailer_full)))
+      ∙ is_right h r d e t decoded entries_full (rw (cut, version) (in_order.right (omega arith))))
       (small h (AreBytes-take 48 b are))
       (small d (AreBytes-take (decode_size h) (after_rows b) are_decode)) refl refl
       row_items.0 entry_items.0 refl row_items.1 entry_items.1)

@@ -3,7 +3,7 @@ use Rattle.gc_file.proofs.ReaderNames.{◌≡◌, ℕ, ◌+◌, ◌<◌, List, �
 use Rattle.std.proofs.lemmas.List.{take_all, length-take-le, length-drop}
 use Rattle.gc_file.proofs.LabelBytesLemmas.{length-row_bytes, length-entry_bytes}
 use Rattle.gc_file.proofs.PairLemmas.{length-pairs}
-use Rattle.gc_file.proofs.PlaceLemmas.{begins}
+use Rattle.gc_file.proofs.PlaceLemmas.{IsDecoded, begins}
 use Rattle.gc_file.proofs.PackLemmas.{packed-unpacked}
 
 -- Two pieces that follow one another.
@@ -29,10 +29,8 @@ header_parts h digest whole in_order small is =
     )
     (take_all 48 h (omega arith))
 
-module _ (h r d e t : List ℕ) (p : GarbledParts) (whole : length h ≡ 48)
-    (in_order : IsHeaderInOrder (version_of_bytes h) h)
-    (rows_full : length r ≡ row_size h) (decode_full : length d ≡ decode_size h)
-    (entries_full : length e ≡ entry_size h)
+module _ (h r d e t : List ℕ) (p : GarbledParts) (decoded : IsDecoded h r d)
+    (in_order : IsHeaderInOrder (version_of_bytes h) h) (entries_full : length e ≡ entry_size h)
     (none : IsSpare (output_count h) d → ⊥) (right : t ≡ sha256 (h ++ r ++ d ++ e))
     (small_header : (i : ℕ) → get_or h i 0 < 256) (small_decode : (i : ℕ) → get_or d i 0 < 256)
     (version_is : p.version ≡ version_of_bytes h) (digest_is : p.digest ≡ take 32 (drop 8 h))
@@ -55,9 +53,9 @@ module _ (h r d e t : List ℕ) (p : GarbledParts) (whole : length h ≡ 48)
     version_is,
     rows_are,
     bits_are,
-    packed-unpacked d (output_count h) decode_full small_decode none,
+    packed-unpacked d (output_count h) decoded.decode small_decode none,
     entries_are,
-    header_parts h p.digest whole in_order small_header digest_is,
+    header_parts h p.digest decoded.header in_order small_header digest_is,
   ) refl
 
   pub file_is : All (λ row. IsLabel row.generator × IsLabel row.evaluator) p.rows

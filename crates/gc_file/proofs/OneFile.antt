@@ -4,7 +4,7 @@ use Rattle.std.specs.List.{range_with_len}
 use Rattle.sha2.specs.Sha256.{sha256}
 use Rattle.sha2.proofs.Facts256.{length-sha256}
 use Rattle.gc_file.proofs.PackLemmas.{length-packed, packed-not_spare, unpacked-packed}
-use Rattle.gc_file.proofs.PlaceLemmas.{length-magic, begins, begun, parts_in_order, entries_end_is, length_is}
+use Rattle.gc_file.proofs.PlaceLemmas.{IsDecoded, parts, nested, length-magic, begins, begun, parts_in_order, entries_end_is, length_is}
 use Rattle.gc_file.proofs.ItemLemmas.{items_from, items_back, row_of, row_spelling, entry_of, entry_spelling}
 use Rattle.gc_file.proofs.FaultLemmas.{one_version, no_lasting}
 
@@ -35,28 +35,22 @@ parts_in b =
     (take (decode_size (header_in b)) (after_rows b))
     (take (entry_size (header_in b)) (after_decode b))
 
-cut_parts : (h r d e t : List ℕ) → length h ≡ 48 → length r ≡ row_size h → length d ≡ decode_size h
-    → length e ≡ entry_size h → parts_in (h ++ r ++ d ++ e ++ t) ≡ parts_from h r d e
+cut_parts : (h r d e t : List ℕ) → IsDecoded h r d → length e ≡ entry_size h
+    → parts_in (parts h r d e t) ≡ parts_from h r d e
 unfolding parts_in
-cut_parts h r d e t whole rows_full decode_full entries_full =
+cut_parts h r d e t decoded entries_full =
     rw (
-      append_assoc (h ++ r ++ d) e t,
-      append_assoc (h ++ r) d (e ++ t),
-      append_assoc h r (d ++ (e ++ t)),
-      take_at h _ 48 whole,
-      drop_at h _ 48 whole,
-      take_at r _ (row_size h) rows_full,
-      drop_at r _ (row_size h) rows_full,
-      take_at d _ (decode_size h) decode_full,
-      drop_at d _ (decode_size h) decode_full,
+      nested h r d e t,
+      take_at h _ 48 decoded.header,
+      drop_at h _ 48 decoded.header,
+      take_at r _ (row_size h) decoded.rows,
+      drop_at r _ (row_size h) decoded.rows,
+      take_at d _ (decode_size h) decoded.decode,
+      drop_at d _ (decode_size h) decoded.decode,
       take_at e _ (entry_size h) entries_full,
     ) refl
 
 module _ (b : List ℕ) (p : GarbledParts) (file : IsGarbledFile b p) where
-  length-header : length (header p) ≡ 48
-  length-header =
-      omega (arith, length-append {A = ℕ}, length-magic, length-number_bytes, file.digest)
-
   header_magic : take 8 (header p) ≡ magic p.version
   header_magic = rw (append_assoc, append_assoc)
       (take_at (magic p.version) _ 8 (length-magic p.version))
@@ -84,11 +78,12 @@ module _ (b : List ℕ) (p : GarbledParts) (file : IsGarbledFile b p) where
       (omega (arith, length-append {A = ℕ}, length-magic, length-number_bytes, file.digest))
       (omega (arith, file.few_outputs))
 
-  rows_full : length (flat_map row_bytes p.rows) ≡ row_size (header p)
-  rows_full = rw header_rows (length-pairs row_bytes length-row_bytes p.rows)
-
-  decode_full : length (packed p.decode_bits) ≡ decode_size (header p)
-  decode_full = rw header_outputs (length-packed p.decode_bits)
+  decoded : IsDecoded (header p) (flat_map row_bytes p.rows) (packed p.decode_bits)
+  decoded = record {
+    header = omega (arith, length-append {A = ℕ}, length-magic, length-number_bytes, file.digest);
+    rows = rw header_rows (length-pairs row_bytes length-row_bytes p.rows);
+    decode = rw header_outputs (length-packed p.decode_bits);
+  }
 
   entries_full : length (flat_map entry_bytes p.entries) ≡ entry_size (header p)
   entries_full = rw (header_version, header_outputs, ← file.entry_pairs)
@@ -98,8 +93,7 @@ module _ (b : List ℕ) (p : GarbledParts) (file : IsGarbledFile b p) where
   unfolding garbled_file
   file_parts =
       ap parts_in file.spelled
-      ∙ cut_parts (header p) _ _ _ (sha256 (body p)) length-header rows_full decode_full
-      entries_full
+      ∙ cut_parts (header p) _ _ _ (sha256 (body p)) decoded entries_full
       ∙ rw (
         header_version,
         header_digest,
@@ -115,24 +109,24 @@ module _ (b : List ℕ) (p : GarbledParts) (file : IsGarbledFile b p) where
   file_in_order : IsInOrder (version_of_bytes (header p)) b
   unfolding garbled_file
   file_in_order = rw file.spelled (parts_in_order (header p) (flat_map row_bytes p.rows)
-      (packed p.decode_bits) (flat_map entry_bytes p.entries) (sha256 (body p)) length-header
+      (packed p.decode_bits) (flat_map entry_bytes p.entries) (sha256 (body p)) decoded.header
       (record {
         begun = rw header_version (begun p.version (header p)
-            (omega (arith, length-header)) header_magic);
+            (omega (arith, decoded.header)) header_magic);
         few_rows = λ long. rw header_rows file.few_rows;
         few_outputs = λ long. rw header_outputs file.few_outputs;
       })
-      (search (arith, rows_full, decode_full, entries_full, length-sha256 (body p)))
+      (search (arith, decoded, entries_full, length-sha256 (body p)))
       (λ full spare. packed-not_spare p.decode_bits (rw header_outputs at spare)) (λ full. refl))
 
   file_whole : length b ≡ trailer_end (version_of_bytes (header p)) b
   unfolding garbled_file
   file_whole = rw file.spelled (
       let ends = entries_end_is (header p) (flat_map row_bytes p.rows) (packed p.decode_bits)
-      (flat_map entry_bytes p.entries) (sha256 (body p)) length-header in
+      (flat_map entry_bytes p.entries) (sha256 (body p)) decoded.header in
       let long = length_is (header p) (flat_map row_bytes p.rows) (packed p.decode_bits)
-      (flat_map entry_bytes p.entries) (sha256 (body p)) length-header in
-      omega (arith, rows_full, decode_full, entries_full, length-sha256 (body p)))
+      (flat_map entry_bytes p.entries) (sha256 (body p)) decoded.header in
+      omega (arith, decoded, entries_full, length-sha256 (body p)))
 
 -- A file has no fault.
 pub file_not_fault : (b : List ℕ) (p : GarbledParts) (e : FileFault) → IsGarbledFile b p

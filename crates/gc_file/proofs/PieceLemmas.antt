@@ -23,10 +23,10 @@ takes size part piece fits is =
     rw is (record { fits = omega arith; full = λ some. omega arith; all = omega arith })
 
 -- Bytes go in front of a rest that is empty.
-in_front : (rest q more : List ℕ) → (0 < length q → length rest ≡ 0)
+in_front : (rest q : List ℕ) → (0 < length q → length rest ≡ 0) → (more : List ℕ)
     → rest ++ (q ++ more) ≡ q ++ (rest ++ more)
-in_front rest [] more none = refl
-in_front rest (x ∷ q) more none = rw (empty_list rest (none (omega arith))) refl
+in_front rest [] none more = refl
+in_front rest (x ∷ q) none more = rw (empty_list rest (none (omega arith))) refl
 
 -- A piece is cut up into what each part lacks, and what is left.
 module _ {row_size decode_size entry_size : ℕ} {r d e t : List ℕ}
@@ -77,44 +77,34 @@ module _ {row_size decode_size entry_size : ℕ} {r d e t : List ℕ}
   pub left_over : 0 < length left → length (t ++ q4) ≡ 32
   left_over some = length-append t q4 ∙ takes_trailer.full some
 
-  -- Bytes of a part go in front of the later parts, which are still empty then.
-  d_q1 : (more : List ℕ) → d ++ (q1 ++ more) ≡ q1 ++ (d ++ more)
-  d_q1 more = in_front d q1 more (λ some. grind (arith, takes_rows))
-
-  e_q1 : (more : List ℕ) → e ++ (q1 ++ more) ≡ q1 ++ (e ++ more)
-  e_q1 more = in_front e q1 more (λ some. grind (arith, takes_rows))
-
-  t_q1 : (more : List ℕ) → t ++ (q1 ++ more) ≡ q1 ++ (t ++ more)
-  t_q1 more = in_front t q1 more (λ some. grind (arith, takes_rows))
-
-  e_q2 : (more : List ℕ) → e ++ (q2 ++ more) ≡ q2 ++ (e ++ more)
-  e_q2 more = in_front e q2 more (λ some. grind (arith, takes_decode))
-
-  t_q2 : (more : List ℕ) → t ++ (q2 ++ more) ≡ q2 ++ (t ++ more)
-  t_q2 more = in_front t q2 more (λ some. grind (arith, takes_decode))
-
-  t_q3 : (more : List ℕ) → t ++ (q3 ++ more) ≡ q3 ++ (t ++ more)
-  t_q3 more = in_front t q3 more (λ some. grind (arith, takes_entries))
-
   whole_piece : piece ≡ q1 ++ (q2 ++ (q3 ++ (q4 ++ left)))
-  whole_piece = rw (
-    cuts.rows,
-    cuts.decode,
-    cuts.entries,
-    cuts.trailer,
-    cuts.rest,
-    take-append-drop,
-    take-append-drop,
-    take-append-drop,
-    take-append-drop,
-  ) refl
+  whole_piece =
+      rw (cuts.rows, cuts.decode, cuts.entries, cuts.trailer, cuts.rest) (simp take-append-drop)
 
-  -- The parts and the piece are the parts with more, and what is left.
+  -- The parts and the piece are the parts with more, and what is left: bytes of a part go in front of the later parts,
+  -- which are still empty then.
   pub whole_more : (h : List ℕ) → h ++ r ++ d ++ e ++ t ++ piece
       ≡ h ++ (r ++ q1) ++ (d ++ q2) ++ (e ++ q3) ++ (t ++ q4) ++ left
-  whole_more h = rw whole_piece (simp (append_assoc, d_q1, e_q1, t_q1, e_q2, t_q2, t_q3))
+  whole_more h =
+      let t1 = takes_rows in let t2 = takes_decode in let t3 = takes_entries in
+      rw whole_piece (simp (
+        append_assoc,
+        in_front d q1 (λ some. grind arith),
+        in_front e q1 (λ some. grind arith),
+        in_front t q1 (λ some. grind arith),
+        in_front e q2 (λ some. grind arith),
+        in_front t q2 (λ some. grind arith),
+        in_front t q3 (λ some. grind arith),
+      ))
 
   -- So are the parts before the trailer, with their bytes of the piece.
   pub message_more : (h : List ℕ) → h ++ r ++ d ++ e ++ q1 ++ q2 ++ q3
       ≡ h ++ (r ++ q1) ++ (d ++ q2) ++ (e ++ q3)
-  message_more h = simp (append_assoc, d_q1, e_q1, e_q2)
+  message_more h =
+      let t1 = takes_rows in let t2 = takes_decode in
+      simp (
+        append_assoc,
+        in_front d q1 (λ some. grind arith),
+        in_front e q1 (λ some. grind arith),
+        in_front e q2 (λ some. grind arith),
+      )

@@ -1,9 +1,9 @@
 -- A piece that comes after the header of a garbled file.
-use Rattle.gc_file.proofs.ReaderNames.{◌≡◌, ℕ, ◌-◌, ◌<◌, List, [], ◌++◌, length, take, refl, sym, append_assoc, append-nil, length-append, subst, Option, IfSome, Bor, rules, arith, LongSha256, sha256, SpareBits, BadTrailer, Trailing, Version, One, Two, magic, output_count, LastingFault, IsHeaderInOrder, IsSpare, version_of_bytes, row_size, decode_size, entry_size, IsHashed, IsGiven, IsBody, IsCutUp}
+use Rattle.gc_file.proofs.ReaderNames.{◌≡◌, ℕ, ◌-◌, ◌<◌, List, [], ◌++◌, length, take, refl, sym, ◌∙◌, append_assoc, append-nil, length-append, subst, Option, IfSome, Bor, rules, arith, LongSha256, sha256, SpareBits, BadTrailer, Trailing, Version, One, Two, magic, output_count, LastingFault, IsHeaderInOrder, IsSpare, version_of_bytes, row_size, decode_size, entry_size, IsHashed, IsGiven, IsBody, IsCutUp, IsFilled}
 use Rattle.gc_file.specs.Reading.{before_trailer}
 use Rattle.std.proofs.lemmas.List.{get_or-take, take_at}
 use Rattle.gc_lanes.specs.Hasher.{HoldsMessage}
-use Rattle.gc_file.proofs.PieceLemmas.{empty_list, takes_rows, takes_decode, takes_entries, filled_more, left_over, whole_more, message_more}
+use Rattle.gc_file.proofs.PieceLemmas.{empty_list, filled_more, left_over, whole_more, message_more}
 use Rattle.gc_file.proofs.PlaceLemmas.{begins, spare_fault, bad_trailer_fault, more_fault}
 
 -- The eighth byte of a magic gives its version.
@@ -43,88 +43,79 @@ module _ {h r d e t : List ℕ} {hasher : LongSha256} (body : IsBody h r d e t h
     {piece q1 q2 q3 q4 left : List ℕ}
     (cuts : IsCutUp (row_size h - length r) (decode_size h - length d) (entry_size h - length e)
     (32 - length t) piece q1 q2 q3 q4 left) where
-  -- No byte comes before the trailer once it has begun.
-  pub order_step : 0 < length t → length (q1 ++ q2 ++ q3) ≡ 0
-  order_step begun =
-      let f = body.filled in
-      let rows = f.rows_first (omega arith) in
-      let decode = f.decode_first (omega arith) in
-      let entries = f.entries_first begun in
-      omega (
-        arith,
-        length-append (q1 ++ q2) q3,
-        length-append q1 q2,
-        (takes_rows f cuts).fits,
-        (takes_decode f cuts).fits,
-        (takes_entries f cuts).fits,
-      )
+  -- The bytes with the piece,
+  abbrev whole : List ℕ
+  whole = h ++ r ++ d ++ e ++ t ++ piece
 
-  -- The message before the trailer, with its bytes of the piece.
-  pub message_step : h ++ (r ++ q1) ++ (d ++ q2) ++ (e ++ q3) ≡ h ++ r ++ d ++ e ++ q1 ++ q2 ++ q3
+  -- the message before the trailer, with its bytes of the piece,
+  abbrev message : List ℕ
+  message = h ++ (r ++ q1) ++ (d ++ q2) ++ (e ++ q3)
+
+  pub message_step : message ≡ h ++ r ++ d ++ e ++ q1 ++ q2 ++ q3
   message_step = sym (message_more body.filled cuts h)
 
+  -- and the parts, each with its bytes.
+  filled : IsFilled (row_size h) (decode_size h) (entry_size h) (r ++ q1) (d ++ q2) (e ++ q3)
+      (t ++ q4)
+  filled = filled_more body.filled cuts
+
   pub spare_step : length (d ++ q2) ≡ decode_size h → IsSpare (output_count h) (d ++ q2)
-      → LastingFault (h ++ r ++ d ++ e ++ t ++ piece) SpareBits
+      → LastingFault whole SpareBits
   spare_step full spare =
-      let f = filled_more body.filled cuts in let part = spare.not_full in
+      let part = spare.not_full in
       rw (whole_more body.filled cuts h, append_assoc)
-      (spare_fault h (r ++ q1) (d ++ q2) (e ++ q3) (t ++ q4 ++ left) body.whole body.in_order
-      (f.rows_first (omega arith)) full spare)
+      (spare_fault h (r ++ q1) (d ++ q2) (e ++ q3) (t ++ q4 ++ left)
+      (record { header = body.whole; rows = filled.rows_first (omega arith); decode = full })
+      body.in_order spare)
 
-  pub bad_trailer_step : (length (d ++ q2) ≡ decode_size h → IsSpare (output_count h) (d ++ q2) → ⊥)
-      → length (t ++ q4) ≡ 32
-      → (t ++ q4 ≡ sha256 (h ++ (r ++ q1) ++ (d ++ q2) ++ (e ++ q3)) → ⊥)
-      → LastingFault (h ++ r ++ d ++ e ++ t ++ piece) BadTrailer
-  bad_trailer_step no_spare full wrong =
-      let f = filled_more body.filled cuts in
-      let decode_full = f.decode_first (omega arith) in
-      rw (whole_more body.filled cuts h)
-      (bad_trailer_fault h (r ++ q1) (d ++ q2) (e ++ q3) (t ++ q4) left body.whole
-      (f.rows_first (omega arith)) decode_full (f.entries_first (omega arith)) full body.in_order
-      (no_spare decode_full) wrong)
-
-  pub more_step : (length (d ++ q2) ≡ decode_size h → IsSpare (output_count h) (d ++ q2) → ⊥)
-      → {after : LongSha256}
-      → IsHashed (h ++ (r ++ q1) ++ (d ++ q2) ++ (e ++ q3)) (t ++ q4) after → 0 < length left
-      → LastingFault (h ++ r ++ d ++ e ++ t ++ piece) Trailing
-  more_step no_spare hashed some =
-      let f = filled_more body.filled cuts in
-      let full = left_over body.filled cuts some in
-      let decode_full = f.decode_first (omega arith) in
-      rw (whole_more body.filled cuts h)
-      (more_fault h (r ++ q1) (d ++ q2) (e ++ q3) (t ++ q4) left body.whole
-      (f.rows_first (omega arith)) decode_full (f.entries_first (omega arith)) full
-      body.in_order (no_spare decode_full)
-      (hashed.right full) some)
-
-  pub body_step : (length (d ++ q2) ≡ decode_size h → IsSpare (output_count h) (d ++ q2) → ⊥)
-      → {after : LongSha256}
-      → IsHashed (h ++ (r ++ q1) ++ (d ++ q2) ++ (e ++ q3)) (t ++ q4) after
-      → IsBody h (r ++ q1) (d ++ q2) (e ++ q3) (t ++ q4) after
-  body_step no_spare hashed = record {
-    whole = body.whole;
-    in_order = body.in_order;
-    filled = filled_more body.filled cuts;
-    no_spare_bit = no_spare;
-    hashed = hashed;
-  }
-
-  pub view_step : length left ≡ 0
-      → h ++ (r ++ q1) ++ (d ++ q2) ++ (e ++ q3) ++ (t ++ q4) ≡ h ++ r ++ d ++ e ++ t ++ piece
+  pub view_step : length left ≡ 0 → message ++ (t ++ q4) ≡ whole
   view_step none = rw (whole_more body.filled cuts h, empty_list left none, append-nil) refl
 
   -- Where the trailer is whole and nothing is left, the bytes before the last 32 are those before the trailer.
-  before_step : length (t ++ q4) ≡ 32 → length left ≡ 0
-      → before_trailer (h ++ r ++ d ++ e ++ t ++ piece) ≡ h ++ (r ++ q1) ++ (d ++ q2) ++ (e ++ q3)
+  before_step : length (t ++ q4) ≡ 32 → length left ≡ 0 → before_trailer whole ≡ message
   before_step full none =
-      let n : List ℕ = h ++ (r ++ q1) ++ (d ++ q2) ++ (e ++ q3) in
-      let all = length-append n (t ++ q4) in
-      rw (← view_step none) (take_at n (t ++ q4) (length (n ++ (t ++ q4)) - 32) (omega arith))
+      let all = length-append message (t ++ q4) in
+      rw (← view_step none)
+      (take_at message (t ++ q4) (length (message ++ (t ++ q4)) - 32) (omega arith))
 
   pub given_step : (digest : Option (Bor (List ℕ)))
-      → IfSome digest (λ given.
-      given.now ≡ sha256 (before_trailer (h ++ r ++ d ++ e ++ t ++ piece)))
-      → IsGiven digest (h ++ (r ++ q1) ++ (d ++ q2) ++ (e ++ q3)) (t ++ q4) left
+      → IfSome digest (λ given. given.now ≡ sha256 (before_trailer whole))
+      → IsGiven digest message (t ++ q4) left
   given_step digest known = λ full none.
       subst (λ (x : List ℕ). IfSome digest (λ given. given.now ≡ sha256 x)) (before_step full none)
       known
+
+  -- where the decode bits have no spare bit
+  module _ (no_spare : length (d ++ q2) ≡ decode_size h → IsSpare (output_count h) (d ++ q2) → ⊥)
+      where
+    pub bad_trailer_step : length (t ++ q4) ≡ 32 → (t ++ q4 ≡ sha256 message → ⊥)
+        → LastingFault whole BadTrailer
+    bad_trailer_step full wrong =
+        let decode = filled.decode_first (omega arith) in
+        rw (whole_more body.filled cuts h, append_assoc)
+        (bad_trailer_fault h (r ++ q1) (d ++ q2) (e ++ q3) (t ++ q4 ++ left)
+        (record { header = body.whole; rows = filled.rows_first (omega arith); decode = decode })
+        (filled.entries_first (omega arith)) body.in_order (no_spare decode)
+        (omega (arith, length-append (t ++ q4) left))
+        (λ right. wrong (sym (take_at (t ++ q4) left 32 full) ∙ right)))
+
+    module _ {after : LongSha256} (hashed : IsHashed message (t ++ q4) after) where
+      pub more_step : 0 < length left → LastingFault whole Trailing
+      more_step some =
+          let full = left_over body.filled cuts some in
+          let decode = filled.decode_first (omega arith) in
+          rw (whole_more body.filled cuts h, append_assoc)
+          (more_fault h (r ++ q1) (d ++ q2) (e ++ q3) (t ++ q4 ++ left)
+          (record { header = body.whole; rows = filled.rows_first (omega arith); decode = decode })
+          (filled.entries_first (omega arith)) body.in_order (no_spare decode)
+          (omega (arith, length-append (t ++ q4) left))
+          (take_at (t ++ q4) left 32 full ∙ hashed.right full))
+
+      pub body_step : IsBody h (r ++ q1) (d ++ q2) (e ++ q3) (t ++ q4) after
+      body_step = record {
+        whole = body.whole;
+        in_order = body.in_order;
+        filled = filled;
+        no_spare_bit = no_spare;
+        hashed = hashed;
+      }

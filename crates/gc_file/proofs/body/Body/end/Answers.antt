@@ -27,8 +27,13 @@ returns g c =
     } in
     rw (← c.self.view_is)
     (file_is inside.header.items inside.rows inside.decode_bytes.items inside.entries
-    inside.trailer.items parts body.whole body.in_order (body.filled.rows_first (omega arith))
-    decode_full (body.filled.entries_first (omega arith)) (body.no_spare_bit decode_full)
+    inside.trailer.items parts
+    (record {
+      header = body.whole;
+      rows = body.filled.rows_first (omega arith);
+      decode = decode_full;
+    })
+    body.in_order (body.filled.entries_first (omega arith)) (body.no_spare_bit decode_full)
     (body.hashed.right full) (rw (← header) c.digest_in-digest.ensures.bytes)
     (rw (← decode) c.in_ok-decode_bits.ensures.bytes)
     (rw (← header) c.of-counts.ensures.version) (rw (← header) c.digest_in-digest.ensures.digest)
