@@ -8,31 +8,29 @@ one_version v w b is is' = sym (version_of_bytes-begun v b is) ∙ version_of_by
 
 -- A fault that stays is the only one.
 module _ (b : List ℕ) (f : FileFault) (y : LastingFault b f) where
-  only_magic : ((v : Version) → MatchesMagic (magic v) b → ⊥) → f ≡ BadMagic
+  only_magic : ((v : Version) → MatchesMagic (magic v) b → ⊥) → BadMagic ≡ f
   only_magic none = grind (arith, none, begun)
 
-  module _ (v : Version) where
-    only_count : take 8 b ≡ magic v → 44 ≤ length b
-        → (MAX_GATES < row_count b) ⊎ (MAX_WIRES < output_count b) → f ≡ CountTooLarge
-    only_count is long many = grind (arith, begun)
+  only_count : (v : Version) → take 8 b ≡ magic v → 44 ≤ length b
+      → (MAX_GATES < row_count b) ⊎ (MAX_WIRES < output_count b) → CountTooLarge ≡ f
+  only_count v is long many = grind (arith, begun)
 
-    only_spare : HasHeader v b → HasSpareBit b → f ≡ SpareBits
-    only_spare header spare = grind (arith, begun)
+  only_spare : (v : Version) → HasHeader v b → HasSpareBit b → SpareBits ≡ f
+  only_spare v header spare = grind (arith, begun)
 
-    only_trailer : HasDecodeBits v b → (IsTrailerRight v b → ⊥) → f ≡ BadTrailer
-    only_trailer has wrong = grind (arith, begun, one_version)
+  only_trailer : (v : Version) → HasDecodeBits v b → (IsTrailerRight v b → ⊥) → BadTrailer ≡ f
+  only_trailer v has wrong = grind (arith, begun, one_version)
 
-    only_trailing : HasDecodeBits v b → IsTrailerRight v b → f ≡ Trailing
-    only_trailing has right = grind (arith, begun, one_version)
+  only_trailing : (v : Version) → HasDecodeBits v b → IsTrailerRight v b → Trailing ≡ f
+  only_trailing v has right = grind (arith, begun, one_version)
 
-one_lasting : (b : List ℕ) (e f : FileFault) → LastingFault b e → LastingFault b f → e ≡ f
-one_lasting b _ f (bad_magic none) y = sym (only_magic b f y none)
-one_lasting b _ f (too_many_rows v is long many) y = sym (only_count b f y v is long (inl many))
-one_lasting b _ f (too_many_outputs v is long many) y =
-    sym (only_count b f y v is (omega arith) (inr many))
-one_lasting b _ f (spare_bits v header reaches spare) y = sym (only_spare b f y v header spare)
-one_lasting b _ f (bad_trailer v has reaches wrong) y = sym (only_trailer b f y v has wrong)
-one_lasting b _ f (trailing v has more right) y = sym (only_trailing b f y v has right)
+  one_lasting : (e : FileFault) → LastingFault b e → e ≡ f
+  one_lasting _ (bad_magic none) = only_magic none
+  one_lasting _ (too_many_rows v is long many) = only_count v is long (inl many)
+  one_lasting _ (too_many_outputs v is long many) = only_count v is (omega arith) (inr many)
+  one_lasting _ (spare_bits v header reaches spare) = only_spare v header spare
+  one_lasting _ (bad_trailer v has reaches wrong) = only_trailer v has wrong
+  one_lasting _ (trailing v has more right) = only_trailing v has right
 
 -- Bytes that are in order have no fault that stays.
 pub no_lasting : (v : Version) (b : List ℕ) → IsInOrder v b → (e : FileFault) → LastingFault b e → ⊥
@@ -40,7 +38,4 @@ no_lasting v b in_order e x = grind (arith, one_version, begins)
 
 pub one_fault : (b : List ℕ) (e f : FileFault) → FirstGarbledFault b e → FirstGarbledFault b f
     → e ≡ f
-one_fault b _ _ (lasting e x) (lasting f y) = one_lasting b e f x y
-one_fault b _ _ (lasting e x) (truncated v in_order short) = absurd (no_lasting v b in_order e x)
-one_fault b _ _ (truncated v in_order short) (lasting f y) = absurd (no_lasting v b in_order f y)
-one_fault b _ _ (truncated v in_order short) (truncated w in_order' short') = refl
+one_fault b e f x y = grind (arith, one_lasting, no_lasting)

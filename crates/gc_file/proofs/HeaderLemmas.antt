@@ -8,10 +8,7 @@ take_both n m xs = grind (arith, take-take {A = ℕ}, take_all {A = ℕ}, length
 -- A beginning of bytes that begin with a magic is one of it too.
 pub begun_before : (m bytes more : List ℕ) → MatchesMagic m (bytes ++ more) → MatchesMagic m bytes
 begun_before m bytes more begun =
-    ap (take 8) (sym (take_at bytes more (length bytes) refl))
-    ∙ take_both 8 (length bytes) (bytes ++ more)
-    ∙ ap (take (length bytes)) begun
-    ∙ take-take (length bytes) (length (bytes ++ more)) m (omega (arith, length-append bytes more))
+    grind (arith, take_at bytes more (length bytes), take-take {A = ℕ}, take_all {A = ℕ}, length-take {A = ℕ}, length-append bytes more)
 
 -- A beginning of a header that is in order is a beginning of a file that is.
 pub header_in_order : (v : Version) (bytes : List ℕ) → length bytes < 48 → IsHeaderInOrder v bytes
@@ -40,13 +37,7 @@ module _ (bytes more : List ℕ) where
 
   header-more : (v : Version) → HasHeader v bytes → HasHeader v (bytes ++ more)
   header-more v has =
-      let long = has.whole in
-      record {
-        begins = rw (take-append-le 8 bytes more (omega arith)) has.begins;
-        whole = omega (arith, length-append bytes more);
-        few_rows = rw (rows-more (omega arith)) has.few_rows;
-        few_outputs = rw (outputs-more long) has.few_outputs;
-      }
+      grind (arith, take-append-le 8 bytes more, length-append bytes more, rows-more, outputs-more)
 
   last-more : 48 ≤ length bytes → decode_end bytes ≤ length bytes
       → slice_index (bytes ++ more) (decode_end (bytes ++ more) - 1)
@@ -57,37 +48,25 @@ module _ (bytes more : List ℕ) where
 
   spare-more : 48 ≤ length bytes → decode_end bytes ≤ length bytes → HasSpareBit bytes
       → HasSpareBit (bytes ++ more)
-  spare-more long reaches spare = record {
-    not_full = rw (outputs-more long) spare.not_full;
-    bit = rw (last-more long reaches, outputs-more long) spare.bit;
-  }
+  spare-more long reaches spare = grind (arith, outputs-more, last-more)
 
   spare-less : 48 ≤ length bytes → decode_end bytes ≤ length bytes → HasSpareBit (bytes ++ more)
       → HasSpareBit bytes
-  spare-less long reaches spare = record {
-    not_full = rw (outputs-more long) at spare.not_full;
-    bit = rw (last-more long reaches, outputs-more long) at spare.bit;
-  }
+  spare-less long reaches spare = grind (arith, outputs-more, last-more)
 
   decode_bits-more : (v : Version) → HasDecodeBits v bytes → HasDecodeBits v (bytes ++ more)
   decode_bits-more v has =
-      let long = has.header.whole in
-      record {
-        header = header-more v has.header;
-        whole = omega (arith, has.whole, decode_end-more long, length-append bytes more);
-        no_spare_bit = λ spare. has.no_spare_bit (spare-less long has.whole spare);
-      }
+      grind (arith, header-more, decode_end-more, length-append bytes more, spare-less)
 
   right-more : (v : Version) → 48 ≤ length bytes → trailer_end v bytes ≤ length bytes
       → IsTrailerRight v (bytes ++ more) ≡ IsTrailerRight v bytes
   right-more v long reaches =
       let end = entries_end v bytes in
-      rw (
-        entries_end-more v long,
-        drop-append-le end bytes more (omega arith),
-        take-append-le end bytes more (omega arith),
-        take-append-le 32 (drop end bytes) more (omega (arith, length-drop end bytes)),
-      ) refl
+      let same = entries_end-more v long in
+      let front = take-append-le end bytes more (omega arith) in
+      let rest = drop-append-le end bytes more (omega arith) in
+      let trailer = take-append-le 32 (drop end bytes) more (omega (arith, length-drop end bytes)) in
+      cc
 
   -- A lasting fault is that of all longer bytes.
   pub lasts : (e : FileFault) → LastingFault bytes e → LastingFault (bytes ++ more) e
