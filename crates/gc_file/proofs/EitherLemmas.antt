@@ -34,9 +34,11 @@ module _ (v : Version) (b : List ℕ) (are : AreBytes b) (in_order : IsInOrder v
   whole : length h ≡ 48
   whole = length-take-le 48 b (omega arith)
 
+  magic_is : take 8 h ≡ magic v
+  magic_is = take-take 8 48 b (omega arith) ∙ begins v b (omega arith) in_order.header.begun
+
   version : version_of_bytes h ≡ v
-  version = version_of_bytes-begun v h (take-take 8 48 b (omega arith)
-      ∙ begins v b (omega arith) in_order.header.begun)
+  version = version_of_bytes-begun v h magic_is
 
   rows : row_count h ≡ row_count b
   rows = sym (rw cut at (rows_is h r d e t whole))
@@ -74,12 +76,7 @@ module _ (v : Version) (b : List ℕ) (are : AreBytes b) (in_order : IsInOrder v
       (output_count h)) e
       entries_full (AreBytes-take (entry_size h) (after_decode b) are_entries) in
       rw cut at (file_is h r d e t (parts_in b) decoded
-      (record {
-        begun = rw version (begun v h (omega (arith, whole)) (take-take 8 48 b (omega arith)
-            ∙ begins v b (omega arith) in_order.header.begun));
-        few_rows = λ long. rw rows (in_order.header.few_rows (omega arith));
-        few_outputs = λ long. rw outputs (in_order.header.few_outputs (omega arith));
-      })
+      (grind (arith, whole, version, rows, outputs, begun v h, magic_is))
       entries_full
       (λ is. in_order.no_spare_bit (omega arith) (rw cut at (spare h r d e t decoded is)))
       (sym (take_all 32 t (omega (arith, trailer_full)))
@@ -96,7 +93,7 @@ other_or_same xs ys = decided (bytes_eq xs ys) (bytes_eq-Decides xs ys)
   where
     decided : (same : Bool) → Decides same (xs ≡ ys) → (xs ≡ ys → ⊥) ⊎ (xs ≡ ys)
     decided true is = inr (is.0 refl)
-    decided false is = inl (λ e. let same = is.1 e in cc)
+    decided false is = inl (λ e. absurd (cc (is.1 e)))
 
 -- Bytes come to an end and something is bad there, or it is good as far as they come.
 reached : {Bad Good : Type 0} (end long : ℕ) → Bad ⊎ Good
@@ -109,9 +106,9 @@ reached end long (inl bad) = elim (cases_lt long end) [
 
 spare_or_not : (b : List ℕ) → HasSpareBit b ⊎ (HasSpareBit b → ⊥)
 spare_or_not b = elim (cases_lt 0 (output_count b % 8)) [
-  | inr full ↦ inr (λ is. let part = is.not_full in omega arith)
+  | inr full ↦ inr (λ is. omega arith)
   | inl part ↦ elim (cases_lt (slice_index b (decode_end b - 1)) (2 ^ (output_count b % 8))) [
-    | inl low ↦ inr (λ is. let bit = is.bit in omega arith)
+    | inl low ↦ inr (λ is. omega arith)
     | inr high ↦ inl (record { not_full = part; bit = high })
   ]
 ]
@@ -152,17 +149,11 @@ module _ (v : Version) (b : List ℕ) (are : AreBytes b) where
   ]
     where
       has : 48 ≤ length b → HasHeader v b
-      has whole = record {
-        begins = begins v b (omega arith) header.begun;
-        whole = whole;
-        few_rows = header.few_rows (omega arith);
-        few_outputs = header.few_outputs whole;
-      }
+      has whole = grind (arith, begins)
 
       decoded : (decode_end b ≤ length b → HasSpareBit b → ⊥) → decode_end b ≤ length b
           → HasDecodeBits v b
-      decoded none reaches =
-          record { header = has (omega arith); whole = reaches; no_spare_bit = none reaches }
+      decoded none reaches = grind (arith, has)
 
   judged_begun : MatchesMagic (magic v) b → Judged b
   judged_begun begun = elim (reached 44 (length b) (cases_lt MAX_GATES (row_count b))) [

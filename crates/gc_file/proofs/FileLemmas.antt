@@ -63,8 +63,8 @@ module _ (h r d e t : List ℕ) (p : GarbledParts) (decoded : IsDecoded h r d)
       → IsGarbledFile (h ++ r ++ d ++ e ++ t) p
   unfolding garbled_file
   file_is row_labels entry_labels = record {
-    few_rows = rw row_number (in_order.few_rows (omega arith));
-    few_outputs = rw bit_number (in_order.few_outputs (omega arith));
+    few_rows = grind (arith, row_number);
+    few_outputs = grind (arith, bit_number);
     digest = rw digest_is (length-take-le 32 (drop 8 h) (omega (arith, length-drop 8 h)));
     rows = row_labels;
     entries = entry_labels;

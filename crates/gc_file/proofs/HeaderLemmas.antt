@@ -2,23 +2,22 @@
 use Rattle.gc_file.proofs.ReaderNames.{◌≡◌, ℕ, ◌-◌, ◌<◌, ◌≤◌, List, ◌++◌, length, take, drop, slice_index, refl, sym, ap, ◌∙◌, append_assoc, length-append, arith, FileFault, Version, magic, MatchesMagic, row_count, output_count, decode_end, entries_end, trailer_end, IsTrailerRight, HasHeader, HasSpareBit, HasDecodeBits, LastingFault, bad_magic, too_many_rows, too_many_outputs, spare_bits, bad_trailer, trailing, IsHeaderInOrder, IsInOrder, u32_at-append}
 use Rattle.std.proofs.lemmas.List.{take_at, take_all, length-take, take-append-le, take-take, take-append-drop, drop-append-le, get_or_append_left, length-drop}
 
-take_both : (n m : ℕ) (xs : List ℕ) → take n (take m xs) ≡ take m (take n xs)
-take_both n m xs = grind (arith, take-take {A = ℕ}, take_all {A = ℕ}, length-take {A = ℕ})
-
 -- A beginning of bytes that begin with a magic is one of it too.
 pub begun_before : (m bytes more : List ℕ) → MatchesMagic m (bytes ++ more) → MatchesMagic m bytes
 begun_before m bytes more begun =
-    grind (arith, take_at bytes more (length bytes), take-take {A = ℕ}, take_all {A = ℕ}, length-take {A = ℕ}, length-append bytes more)
+    grind (
+      arith,
+      take_at bytes more (length bytes),
+      take-take {A = ℕ},
+      take_all {A = ℕ},
+      length-take {A = ℕ},
+      length-append bytes more,
+    )
 
 -- A beginning of a header that is in order is a beginning of a file that is.
 pub header_in_order : (v : Version) (bytes : List ℕ) → length bytes < 48 → IsHeaderInOrder v bytes
     → IsInOrder v bytes
-header_in_order v bytes short header = record {
-  header = header;
-  no_spare_bit = λ reaches. absurd (omega arith);
-  right = λ reaches. absurd (omega arith);
-  ends = λ whole. absurd (omega arith);
-}
+header_in_order v bytes short header = grind arith
 
 -- What holds of bytes stays when more follow.
 module _ (bytes more : List ℕ) where
@@ -62,11 +61,12 @@ module _ (bytes more : List ℕ) where
       → IsTrailerRight v (bytes ++ more) ≡ IsTrailerRight v bytes
   right-more v long reaches =
       let end = entries_end v bytes in
-      let same = entries_end-more v long in
-      let front = take-append-le end bytes more (omega arith) in
-      let rest = drop-append-le end bytes more (omega arith) in
-      let trailer = take-append-le 32 (drop end bytes) more (omega (arith, length-drop end bytes)) in
-      cc
+      rw (
+        entries_end-more v long,
+        drop-append-le end bytes more (omega arith),
+        take-append-le end bytes more (omega arith),
+        take-append-le 32 (drop end bytes) more (omega (arith, length-drop end bytes)),
+      ) refl
 
   -- A lasting fault is that of all longer bytes.
   pub lasts : (e : FileFault) → LastingFault bytes e → LastingFault (bytes ++ more) e

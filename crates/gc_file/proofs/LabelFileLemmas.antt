@@ -64,8 +64,8 @@ not_both b p e file x =
 
 still : (b more : List ℕ) → 8 ≤ length b → MatchesMagic label_magic b
     → MatchesMagic label_magic (b ++ more)
-still b more long begun = take-append-le 8 b more long ∙ begins b long begun
-    ∙ sym (take_all (length (b ++ more)) label_magic (omega (arith, length-append b more)))
+still b more long begun =
+    grind (arith, take-append-le 8 b more, begins, take_all {A = ℕ}, length-append b more)
 
 -- Each fault but Truncated is that of all longer bytes.
 pub lasts : (b : List ℕ) (e : FileFault) (more : List ℕ) → e ≢ Truncated → FirstLabelFault b e

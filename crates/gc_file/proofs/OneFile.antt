@@ -4,7 +4,7 @@ use Rattle.std.specs.List.{range_with_len}
 use Rattle.sha2.specs.Sha256.{sha256}
 use Rattle.sha2.proofs.Facts256.{length-sha256}
 use Rattle.gc_file.proofs.PackLemmas.{length-packed, packed-not_spare, unpacked-packed}
-use Rattle.gc_file.proofs.PlaceLemmas.{IsDecoded, parts, nested, length-magic, begins, begun, parts_in_order, entries_end_is, length_is}
+use Rattle.gc_file.proofs.PlaceLemmas.{IsDecoded, parts, nested, length-magic, begins, begun, parts_in_order, whole_is}
 use Rattle.gc_file.proofs.ItemLemmas.{items_from, items_back, row_of, row_spelling, entry_of, entry_spelling}
 use Rattle.gc_file.proofs.FaultLemmas.{one_version, no_lasting}
 
@@ -70,13 +70,10 @@ module _ (b : List ℕ) (p : GarbledParts) (file : IsGarbledFile b p) where
       (omega (arith, file.few_rows)))
 
   header_outputs : output_count (header p) ≡ length p.decode_bits
-  header_outputs = ap (λ l. output_count (magic p.version ++ p.digest
-      ++ number_bytes (length p.rows) ++ l))
-      (sym (append-nil (number_bytes (length p.decode_bits))))
-      ∙ u32_at-number_bytes 44 (length p.decode_bits)
+  header_outputs = simp append-nil at (u32_at-number_bytes 44 (length p.decode_bits)
       (magic p.version ++ p.digest ++ number_bytes (length p.rows)) []
       (omega (arith, length-append {A = ℕ}, length-magic, length-number_bytes, file.digest))
-      (omega (arith, file.few_outputs))
+      (omega (arith, file.few_outputs)))
 
   decoded : IsDecoded (header p) (flat_map row_bytes p.rows) (packed p.decode_bits)
   decoded = record {
@@ -110,36 +107,21 @@ module _ (b : List ℕ) (p : GarbledParts) (file : IsGarbledFile b p) where
   unfolding garbled_file
   file_in_order = rw file.spelled (parts_in_order (header p) (flat_map row_bytes p.rows)
       (packed p.decode_bits) (flat_map entry_bytes p.entries) (sha256 (body p)) decoded.header
-      (record {
-        begun = rw header_version (begun p.version (header p)
-            (omega (arith, decoded.header)) header_magic);
-        few_rows = λ long. rw header_rows file.few_rows;
-        few_outputs = λ long. rw header_outputs file.few_outputs;
-      })
+      (grind (arith, decoded, header_version, header_rows, header_outputs, begun, header_magic))
       (search (arith, decoded, entries_full, length-sha256 (body p)))
       (λ full spare. packed-not_spare p.decode_bits (rw header_outputs at spare)) (λ full. refl))
 
   file_whole : length b ≡ trailer_end (version_of_bytes (header p)) b
   unfolding garbled_file
-  file_whole = rw file.spelled (
-      let ends = entries_end_is (header p) (flat_map row_bytes p.rows) (packed p.decode_bits)
-      (flat_map entry_bytes p.entries) (sha256 (body p)) decoded.header in
-      let long = length_is (header p) (flat_map row_bytes p.rows) (packed p.decode_bits)
-      (flat_map entry_bytes p.entries) (sha256 (body p)) decoded.header in
-      omega (arith, decoded, entries_full, length-sha256 (body p)))
+  file_whole = rw file.spelled (whole_is (header p) (flat_map row_bytes p.rows)
+      (packed p.decode_bits) (flat_map entry_bytes p.entries) (sha256 (body p)) decoded
+      entries_full (length-sha256 (body p)))
 
 -- A file has no fault.
 pub file_not_fault : (b : List ℕ) (p : GarbledParts) (e : FileFault) → IsGarbledFile b p
     → FirstGarbledFault b e → ⊥
-file_not_fault b p _ file (lasting e is) = no_lasting (version_of_bytes (header p)) b
-    (file_in_order b p file) e is
-file_not_fault b p _ file (truncated v in_order short) =
-    let whole = file_whole b p file in
-    let same = one_version v (version_of_bytes (header p)) b
-    (begins v b (omega arith) in_order.header.begun)
-    (begins (version_of_bytes (header p)) b (omega arith) (file_in_order b p file).header.begun) in
-    let less = rw same at short in
-    omega arith
+file_not_fault b p e file fault =
+    grind (arith, file_in_order b p file, file_whole b p file, no_lasting, one_version, begins)
 
 pub one_file : (b : List ℕ) (p q : GarbledParts) → IsGarbledFile b p → IsGarbledFile b q → p ≡ q
 one_file b p q fp fq = sym (file_parts b p fp) ∙ file_parts b q fq

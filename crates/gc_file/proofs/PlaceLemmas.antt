@@ -50,13 +50,16 @@ module _ (h r d e x : List ℕ) where
     length_is = simp (length-append, whole)
 
     has_header : IsHeaderInOrder version h → HasHeader version parts
-    has_header in_order = record {
-      begins = rw (nested, take-append-le 8 h (r ++ (d ++ (e ++ x))) (omega arith))
-          (begins version h (omega arith) in_order.begun);
-      whole = omega (arith, length_is);
-      few_rows = rw rows_is (in_order.few_rows (omega arith));
-      few_outputs = rw outputs_is (in_order.few_outputs (omega arith));
-    }
+    has_header in_order =
+        grind (
+          arith,
+          begins version h,
+          nested,
+          take-append-le 8 h (r ++ (d ++ (e ++ x))),
+          length_is,
+          rows_is,
+          outputs_is,
+        )
 
   module _ (decoded : IsDecoded h r d) where
     last_is : 0 < output_count h % 8
@@ -72,18 +75,10 @@ module _ (h r d e x : List ℕ) where
         ) (get_or_append_left d (e ++ x) 0 (length d - 1) (omega arith))
 
     pub spare : IsSpare (output_count h) d → HasSpareBit parts
-    spare is = record {
-      not_full = rw (outputs_is decoded.header) is.not_full;
-      bit = rw (last_is is.not_full, outputs_is decoded.header) is.bit;
-    }
+    spare is = grind (arith, outputs_is, last_is)
 
     is_spare : HasSpareBit parts → IsSpare (output_count h) d
-    is_spare has =
-        let part = rw (outputs_is decoded.header) at has.not_full in
-        record {
-          not_full = part;
-          bit = rw (last_is part, outputs_is decoded.header) at has.bit;
-        }
+    is_spare has = grind (arith, outputs_is, last_is)
 
     pub spare_fault : IsHeaderInOrder version h → IsSpare (output_count h) d
         → LastingFault parts SpareBits
@@ -93,6 +88,10 @@ module _ (h r d e x : List ℕ) where
 
     -- where the entries are full
     module _ (entries_full : length e ≡ entry_size h) where
+      pub whole_is : length x ≡ 32 → length parts ≡ trailer_end version parts
+      whole_is trailer =
+          omega (arith, entries_end_is decoded.header, length_is decoded.header)
+
       right_same : IsTrailerRight version parts ≡ (take 32 x ≡ sha256 (h ++ r ++ d ++ e))
       right_same =
           let at : length (h ++ r ++ d ++ e) ≡ entries_end version parts =
@@ -104,11 +103,7 @@ module _ (h r d e x : List ℕ) where
 
       module _ (in_order : IsHeaderInOrder version h) (none : IsSpare (output_count h) d → ⊥) where
         has_decode_bits : HasDecodeBits version parts
-        has_decode_bits = record {
-          header = has_header decoded.header in_order;
-          whole = omega (arith, decode_end_is decoded.header, length_is decoded.header);
-          no_spare_bit = λ has. none (is_spare has);
-        }
+        has_decode_bits = grind (arith, has_header, decode_end_is, length_is, is_spare)
 
         pub bad_trailer_fault : 32 ≤ length x → (take 32 x ≡ sha256 (h ++ r ++ d ++ e) → ⊥)
             → LastingFault parts BadTrailer
@@ -136,11 +131,7 @@ parts_in_order h r d e t whole in_order f none right =
     let long = length_is h r d e t whole in
     let header = has_header h r d e t whole in_order in
     record {
-      header = record {
-        begun = begun (version_of_bytes h) (h ++ r ++ d ++ e ++ t) (omega arith) header.begins;
-        few_rows = λ long. header.few_rows;
-        few_outputs = λ long. header.few_outputs;
-      };
+      header = grind (arith, begun (version_of_bytes h) (h ++ r ++ d ++ e ++ t));
       no_spare_bit = λ reaches has.
           let decoded : IsDecoded h r d =
           record { header = whole; rows = grind arith; decode = grind arith } in
