@@ -73,19 +73,13 @@ label_file-is c seed index bits first is =
 -- How many bytes a label file has.
 pub length-label_file : (c : Netlist) (seed : List ℕ) (index : ℕ) (bits : List Bool)
     → length (label_file (label_parts_of c seed index bits)) ≡ 16 + 16 * length bits
-unfolding label_file
 length-label_file c seed index bits =
-    let labels = encoded_from (sum (take index c.input_widths)) seed bits in
-    omega (
-      arith,
-      length-append (number_bytes index ++ number_bytes (length labels))
-          (flat_map bytes_of_label labels),
-      length-append (number_bytes index) (number_bytes (length labels)),
-      length-number_bytes index,
-      length-number_bytes (length labels),
-      length-flat_map bytes_of_label 16 length-bytes_of_label labels,
-      length-encoded_from (sum (take index c.input_widths)) seed bits,
-    )
+    ap length (sym (label_file-is c seed index bits _ refl)) ∙ simp (
+      length-append,
+      length-number_bytes,
+      length-flat_map bytes_of_label 16 length-bytes_of_label,
+      length-encoded_from,
+    ) (omega arith)
 
 -- The wires of an input value come before the number of wires.
 pub first_wire-room : (c : Netlist) → IsLawful c → (index width : ℕ)
@@ -94,10 +88,4 @@ pub first_wire-room : (c : Netlist) → IsLawful c → (index width : ℕ)
 first_wire-room c lawful index width at =
     let within = slice_get_within c.input_widths index width at in
     let read = get_or_from_slice_get c.input_widths index width 0 at in
-    omega (
-      arith,
-      sum_by_more_le (λ n. n) c.input_widths index 0 within,
-      read,
-      lawful.inputs_fit,
-      lawful.few_wires,
-    )
+    omega (arith, sum_by_more_le (λ n. n) c.input_widths index 0 within)

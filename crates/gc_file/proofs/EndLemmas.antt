@@ -60,8 +60,8 @@ IsWritten-stopped : {file : List ℕ} {old new : Option (List ℕ)} {sent : ℕ}
     → IsStopped old new file sent → IsWritten file (Err (record { sent = sent })) old new
 IsWritten-stopped {sent} small s =
     let size = sym (ap length s.whole) ∙ length-append s.beginning s.rest in
-    let same : sent ≡ length s.beginning = omega (arith, s.count, size) in
-    (omega (arith, s.not_all, size), rw (same, ← s.whole, take-append_seam) s.taken)
+    let same : sent ≡ length s.beginning = omega arith in
+    (omega arith, rw (same, ← s.whole, take-append_seam) s.taken)
 
 -- The file was written from its first byte to its last.
 pub IsWritten-whole : {O : Type 0} {Saw : O → List ℕ → Type 0} {w : FileWriter O}
@@ -69,7 +69,7 @@ pub IsWritten-whole : {O : Type 0} {Saw : O → List ℕ → Type 0} {w : FileWr
     → length file < 2 ^ 64
     → ((now : Option (List ℕ)) → IsUnderWay Saw w now now []) → last [] ≡ file
     → Ends Saw w old new r last → IsWritten file r old new
-IsWritten-whole {old} (Ok n) small begun whole ended = rw (← whole)
-    (let e = ended.goes old [] (begun old) in (omega (arith, e.1, ap length whole), e.0))
+IsWritten-whole {old} (Ok n) small begun whole ended =
+    let e = ended.goes old [] (begun old) in rw (← whole) (omega (arith, ap length whole), e.0)
 IsWritten-whole {old} (Err fault) small begun whole ended =
     IsWritten-stopped small (rw (← whole) (ended.goes old [] (begun old)))

@@ -2,7 +2,7 @@
 use Rattle.gc_file.proofs.ReaderNames.{◌≡◌, ℕ, ◌<◌, ◌≤◌, List, ◌++◌, length, take, drop, flat_map, get_or, All, sym, ap, ◌∙◌, arith, bytes_of_label, length-bytes_of_label, number_bytes, u32_at, IsLabel, u32_at-lt, number_bytes-u32_at, MatchesMagic, label_count, IsLabelForm}
 use Rattle.std.proofs.lemmas.List.{take-append-drop, take_all, length-drop}
 use Rattle.gc_file.specs.LabelFile.{label_magic, label_file, IsLabelFile}
-use Rattle.gc_file.proofs.PairLemmas.{length-items}
+use Rattle.gc_file.proofs.PairLemmas.{length-flat_map}
 use Rattle.gc_file.proofs.FileLemmas.{take_plus}
 
 pub begins : (b : List ℕ) → 8 ≤ length b → MatchesMagic label_magic b → take 8 b ≡ label_magic
@@ -15,7 +15,7 @@ pub label_file_is : (b : List ℕ) → ((i : ℕ) → get_or b i 0 < 256) → Is
     → IsLabelFile b (record { index = index; labels = labels })
 unfolding label_file
 label_file_is b are form index index_is labels labels_are each =
-    let size = length-items 16 bytes_of_label length-bytes_of_label labels in
+    let size = length-flat_map bytes_of_label 16 length-bytes_of_label labels in
     let same = ap length labels_are in
     let rest = length-drop 16 b in
     let count : length labels ≡ label_count b = omega arith in

@@ -7,10 +7,7 @@ use Rattle.gc_file.specs.declared.parts.EntryPair.{EntryPair}
 
 -- Each place of bytes has a byte, or is past their end.
 pub small : (bytes : List ℕ) → AreBytes bytes → (i : ℕ) → get_or bytes i 0 < 256
-small bytes are i = elim (cases_lt i (length bytes)) [
-  | inl within ↦ are i 0 within
-  | inr past ↦ rw (get_or_past bytes i 0 past) (omega arith)
-]
+small bytes are i = grind (arith, cases_lt i (length bytes), are i 0, get_or_past bytes i 0)
 
 pub AreBytes-take : (n : ℕ) (bytes : List ℕ) → AreBytes bytes → AreBytes (take n bytes)
 AreBytes-take n bytes = All-take (λ byte. byte < 256) n bytes
@@ -73,12 +70,11 @@ label_spelling = record {
 two_back : (a b : ℕ) → IsLabel a × IsLabel b
     → (label_of_bytes (take 16 (bytes_of_label a ++ bytes_of_label b)) ≡ a)
     × (label_of_bytes (drop 16 (bytes_of_label a ++ bytes_of_label b)) ≡ b)
-two_back a b are = (
-  ap label_of_bytes (take_at (bytes_of_label a) (bytes_of_label b) 16 (length-bytes_of_label a))
-      ∙ label_of_bytes-bytes_of_label a are.0,
-  ap label_of_bytes (drop_at (bytes_of_label a) (bytes_of_label b) 16 (length-bytes_of_label a))
-      ∙ label_of_bytes-bytes_of_label b are.1,
-)
+two_back a b are =
+    let first = bytes_of_label a in let second = bytes_of_label b in
+    let long = length-bytes_of_label a in
+    rw (take_at first second 16 long, drop_at first second 16 long)
+    (label_of_bytes-bytes_of_label a are.0, label_of_bytes-bytes_of_label b are.1)
 
 two_spelled : (l : List ℕ) → length l ≡ 32 → AreBytes l
     → (bytes_of_label (label_of_bytes (take 16 l)) ++ bytes_of_label (label_of_bytes (drop 16 l))

@@ -13,7 +13,7 @@ pub use Rattle.gc_file.specs.declared.parts.Version.{Version}
 pub use Rattle.gc_label.proofs.LabelLemmas.{length-bytes_of_label, label_of_bytes-bytes_of_label, bytes_of_label-label_of_bytes, label_of_bytes-lt}
 pub use Rattle.gc_label.specs.Label.{bytes_of_label, label_of_bytes}
 pub use Rattle.gc_netlist.specs.declared.limits.TheConstants.{MAX_GATES, MAX_WIRES}
-pub use Rattle.gc_file.proofs.PairLemmas.{length-items, length-pairs}
+pub use Rattle.gc_file.proofs.PairLemmas.{length-flat_map, length-pairs}
 pub use Rattle.gc_file.proofs.StepLemmas.{version_of_bytes-begun}
 pub use Rattle.gc_file.specs.Body.{version_of_bytes, row_size, decode_size, entry_size}
 pub use Rattle.gc_file.specs.FileFault.{MatchesMagic, row_count, output_count, decode_end, trailer_end, IsTrailerRight, HasHeader, HasSpareBit, HasDecodeBits, LastingFault, bad_magic, too_many_rows, too_many_outputs, spare_bits, bad_trailer, trailing, IsHeaderInOrder, IsInOrder, FirstGarbledFault, lasting, truncated, label_count, labels_end, FirstLabelFault, bad_label_magic, too_many_labels, labels_trailing, header_truncated, labels_truncated}

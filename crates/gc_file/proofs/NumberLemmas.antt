@@ -36,22 +36,12 @@ pub number_bytes-u32_at : (place : ℕ) (bytes : List ℕ) → place + 4 ≤ len
 unfolding u32_at number_bytes
 number_bytes-u32_at place bytes within small =
     let xs = drop place bytes in
-    let same : little_number 4 xs ≡ from_le_bytes w32 (take 4 xs) =
-    omega (
-      arith,
-      get_or-take 4 xs 0 0 (omega arith),
-      get_or-take 4 xs 1 0 (omega arith),
-      get_or-take 4 xs 2 0 (omega arith),
-      get_or-take 4 xs 3 0 (omega arith),
-    ) in
-    le_bytes_4 (take 4 xs) (little_number 4 xs)
-    (length-take-le 4 xs (omega (arith, length-drop place bytes)))
+    let long = length-take-le 4 xs (omega (arith, length-drop place bytes)) in
+    le_bytes_4 (take 4 xs) (little_number 4 xs) long
     (λ i. elim (cases_lt i 4) [
       | inl below ↦ rw (get_or-take 4 xs i 0 below, get_or-drop place bytes i 0) (small (place + i))
-      | inr past ↦ rw (get_or_past (take 4 xs) i 0
-          (omega (arith, length-take-le 4 xs (omega (arith, length-drop place bytes)))))
-          (omega arith)
-    ]) same
+      | inr past ↦ rw (get_or_past (take 4 xs) i 0 (omega (arith, long))) (omega arith)
+    ]) (omega (arith, get_or-take {A = ℕ}))
 
 -- A number that was read fits into its four bytes.
 pub u32_at-lt : (place : ℕ) (bytes : List ℕ) → ((i : ℕ) → get_or bytes i 0 < 256)

@@ -66,13 +66,12 @@ module _ (b : List ℕ) (p : GarbledParts) (file : IsGarbledFile b p) where
   header_rows : row_count (header p) ≡ length p.rows
   header_rows = rw (append_assoc (magic p.version ++ p.digest) (number_bytes (length p.rows)))
       (u32_at-number_bytes 40 (length p.rows) (magic p.version ++ p.digest) _
-      (omega (arith, length-append {A = ℕ}, length-magic, file.digest))
-      (omega (arith, file.few_rows)))
+      (simp (length-append, length-magic, file.digest)) (omega (arith, file.few_rows)))
 
   header_outputs : output_count (header p) ≡ length p.decode_bits
   header_outputs = simp append-nil at (u32_at-number_bytes 44 (length p.decode_bits)
       (magic p.version ++ p.digest ++ number_bytes (length p.rows)) []
-      (omega (arith, length-append {A = ℕ}, length-magic, length-number_bytes, file.digest))
+      (simp (length-append, length-magic, length-number_bytes, file.digest))
       (omega (arith, file.few_outputs)))
 
   decoded : IsDecoded (header p) (flat_map row_bytes p.rows) (packed p.decode_bits)

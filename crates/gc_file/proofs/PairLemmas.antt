@@ -3,17 +3,16 @@ use Rattle.gc_file.proofs.ReaderNames.{◌≡◌, ℕ, ◌+◌, ◌-◌, ◌*◌
 use Rattle.gc_file.proofs.PieceLemmas.{empty_list}
 
 -- The bytes of items, the same number for each.
-pub length-items : {P : Type 0} (size : ℕ) (bytes_of : P → List ℕ)
-    → ((p : P) → length (bytes_of p) ≡ size) → (items : List P)
-    → length (flat_map bytes_of items) ≡ size * length items
-length-items size bytes_of each [] = omega arith
-length-items size bytes_of each (p ∷ items) =
-    simp (length-append, each, length-items size bytes_of each items) (omega arith)
+pub length-flat_map : {X A : Type 0} (f : X → List A) (n : ℕ) → ((x : X) → length (f x) ≡ n)
+    → (xs : List X) → length (flat_map f xs) ≡ n * length xs
+length-flat_map f n each [] = omega arith
+length-flat_map f n each (x ∷ xs) =
+    simp (length-append, each, length-flat_map f n each xs) (omega arith)
 
 -- The bytes of pairs, 32 each.
 pub length-pairs : {P : Type 0} (bytes_of : P → List ℕ) → ((p : P) → length (bytes_of p) ≡ 32)
     → (pairs : List P) → length (flat_map bytes_of pairs) ≡ 32 * length pairs
-length-pairs bytes_of size pairs = length-items 32 bytes_of size pairs
+length-pairs bytes_of size pairs = length-flat_map bytes_of 32 size pairs
 
 -- The bytes of one more item stand after those before.
 pub take_item : (size at next : ℕ) (bytes : List ℕ) → at + size ≡ next

@@ -20,7 +20,7 @@ takes : (size : ℕ) (part piece : List ℕ) {front : List ℕ} → length part 
 takes size part piece fits is =
     let took = length-take (size - length part) piece in
     let left = length-drop (size - length part) piece in
-    rw is (record { fits = omega arith; full = λ some. omega arith; all = omega arith })
+    rw is (grind arith)
 
 -- Bytes go in front of a rest that is empty.
 in_front : (rest q : List ℕ) → (0 < length q → length rest ≡ 0) → (more : List ℕ)
@@ -63,15 +63,7 @@ module _ {row_size decode_size entry_size : ℕ} {r d e t : List ℕ}
       let t3 = takes_entries in let t4 = takes_trailer in
       let a1 = length-append r q1 in let a2 = length-append d q2 in
       let a3 = length-append e q3 in let a4 = length-append t q4 in
-      record {
-        rows_fit = omega arith;
-        decode_fits = omega arith;
-        entries_fit = omega arith;
-        trailer_fits = omega arith;
-        rows_first = λ some. grind arith;
-        decode_first = λ some. grind arith;
-        entries_first = λ some. grind arith;
-      }
+      grind arith
 
   -- What is left of the piece is left only where the trailer is full.
   pub left_over : 0 < length left → length (t ++ q4) ≡ 32

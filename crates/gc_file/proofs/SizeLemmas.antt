@@ -8,12 +8,8 @@ use Rattle.gc_file.specs.GarbledFile.{entry_count}
 use Rattle.gc_file.specs.Honest.{honest_parts_with, version_entries}
 use Rattle.std.proofs.Common.{◌∙◌}
 use Rattle.gc_file.proofs.LabelBytesLemmas.{length-row_bytes, length-entry_bytes}
-
-pub length-flat_map : {X A : Type 0} (f : X → List A) (n : ℕ) → ((x : X) → length (f x) ≡ n)
-    → (xs : List X) → length (flat_map f xs) ≡ n * length xs
-length-flat_map f n each [] = omega arith
-length-flat_map f n each (x ∷ xs) =
-    simp (length-append, each, length-flat_map f n each xs) (omega arith)
+use Rattle.gc_file.proofs.PlaceLemmas.{length-magic}
+pub use Rattle.gc_file.proofs.PairLemmas.{length-flat_map, length-pairs}
 
 -- The bytes of a garbled file: header, row pairs, decode bits, entry pairs and trailer.
 pub length-garbled_file : (p : GarbledParts) → length p.digest ≡ 32 →
@@ -26,15 +22,11 @@ length-garbled_file p digest =
       length-magic p.version,
       digest,
       length-number_bytes,
-      length-flat_map row_bytes 32 length-row_bytes,
+      length-pairs row_bytes length-row_bytes,
       length-packed,
-      length-flat_map entry_bytes 32 length-entry_bytes,
+      length-pairs entry_bytes length-entry_bytes,
       length-sha256,
     ) (omega arith)
-  where
-    length-magic : (version : Version) → length (magic version) ≡ 8
-    length-magic One = refl
-    length-magic Two = refl
 
 -- The garbled files of a garbling have fewer than 2 ^ 64 bytes.
 pub garbled_file-size : (version : Version) (c : Netlist) (g : GarblingParts)
@@ -65,11 +57,9 @@ pub body-size : (version : Version) (c : Netlist) (offset : ℕ) (g : GarblingPa
 unfolding garbled_file
 body-size version c offset g small =
     let parts = honest_parts_with version c g offset in
-    let whole : length (garbled_file parts) ≡ length (body parts) + length (sha256 (body parts)) =
-    length-append (body parts) (sha256 (body parts)) in
     omega (
       arith,
-      whole,
+      length-append (body parts) (sha256 (body parts)),
       garbled_file-size version c g (version_entries version offset g) small
           (few-version_entries version offset g),
     )

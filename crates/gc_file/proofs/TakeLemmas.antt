@@ -54,7 +54,7 @@ taking_more (Ok bytes) after piece (Ok done) taking fed not_err consumed count =
   fed = fed.0;
   consumed = Consumes-trans _ _ _ bytes piece (rw (given_is taking) at taking.consumed) consumed;
   sound = fed.1;
-  count = omega (arith, taking.count, ap length (given_is taking), length-append bytes piece);
+  count = omega (arith, ap length (given_is taking), length-append bytes piece);
 }
 
 -- A piece that was given, and has a fault.

@@ -9,7 +9,7 @@ IsStopped-more more s = record {
   beginning = s.beginning;
   rest = s.rest ++ more;
   whole = rw (← append_assoc, s.whole);
-  not_all = omega (arith, length-append s.rest more, s.not_all);
+  not_all = omega (arith, length-append s.rest more);
   taken = s.taken;
   count = s.count;
 }
@@ -26,13 +26,7 @@ IsAfter-stopped {taken} {now} sent piece more total appended below is = record {
     whole = rw (append_assoc, take-append-drop) refl;
     not_all = omega (arith, length-drop more piece);
     taken = Appends-trans before taken now file (take more piece) written appended;
-    count = omega (
-      arith,
-      is,
-      count,
-      length-append file (take more piece),
-      length-take more piece,
-    );
+    count = omega (arith, length-append file (take more piece), length-take more piece);
   };
 }
 

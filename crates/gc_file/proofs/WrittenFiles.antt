@@ -1,5 +1,6 @@
 -- What the writers write are files.
-use Rattle.gc_file.proofs.WriterNames.{ℕ, List, length, sum, take, get_or, All, refl, sym, ◌∙◌, arith, range_with_len, zip, count_by-le-length, slice_get-get_or, length-sha256, Netlist, IsLawful, is_and, canonical_text, offset_of, IsLabel, entry_pair_of}
+use Rattle.gc_file.proofs.WriterNames.{ℕ, List, length, sum, take, get_or, All, refl, sym, ◌∙◌, arith, range_with_len, zip, count_by-le-length, slice_get-get_or, length-sha256, Netlist, IsLawful, is_and, canonical_text, offset_of, IsLabel, entry_pair_of, decode_bits_of, ◌≤◌}
+use Rattle.gc_netlist.specs.declared.limits.TheConstants.{MAX_GATES, MAX_WIRES}
 use Rattle.std.proofs.lemmas.List.Elements.{All-map}
 use Rattle.gc_label.proofs.SeedLemmas.{offset_of-lt, input_label_of-lt}
 use Rattle.gc_half.specs.Canonical.{garbling_of}
@@ -13,15 +14,16 @@ pub are_files : (c : Netlist) → IsLawful c → (seed : List ℕ) → AreFiles 
 are_files c lawful seed =
     let g = garbling_of c seed in let garbled = garbling_of-IsGarbled c seed lawful in
     let few_gates = count_by-le-length (λ gate. is_and gate.operation) c.gates in
-    let bits =
-    length-decode_bits g (omega (arith, garbled.wires, garbled.outputs, lawful.outputs_fit)) in
+    let few_rows : length g.rows ≤ MAX_GATES = omega (arith, garbled.garbling.row_count) in
+    let bits = length-decode_bits g (omega arith) in
+    let few_outputs : length (decode_bits_of g) ≤ MAX_WIRES = omega arith in
     let rows : All (λ row. IsLabel row.generator × IsLabel row.evaluator) g.rows =
     λ k row within. IsSmall-row_pairs_of c seed k (get_or g.rows k row)
     (slice_get-get_or g.rows k row within) in
     record {
       one = record {
-        few_rows = omega (arith, few_gates, garbled.garbling.row_count, lawful.few_gates);
-        few_outputs = omega (arith, bits, garbled.outputs, lawful.outputs_fit, lawful.few_wires);
+        few_rows = few_rows;
+        few_outputs = few_outputs;
         digest = length-sha256 (canonical_text c);
         rows = rows;
         entries = λ k pair within. absurd (omega arith);
@@ -29,8 +31,8 @@ are_files c lawful seed =
         spelled = refl;
       };
       two = record {
-        few_rows = omega (arith, few_gates, garbled.garbling.row_count, lawful.few_gates);
-        few_outputs = omega (arith, bits, garbled.outputs, lawful.outputs_fit, lawful.few_wires);
+        few_rows = few_rows;
+        few_outputs = few_outputs;
         digest = length-sha256 (canonical_text c);
         rows = rows;
         entries = All-map (λ pair. IsLabel pair.entry_zero × IsLabel pair.entry_one)
