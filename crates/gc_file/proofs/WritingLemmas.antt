@@ -1,6 +1,7 @@
 -- Files on their way to a sink.
 use Rattle.gc_file.proofs.WriterNames.{◌≡◌, refl, ℕ, ◌+◌, ◌<◌, List, ◌++◌, length, take, drop, length-append, length-take, length-drop, append_assoc, Option, Result, Ok, Err, ◌∙◌, arith, Appends-trans, take-append-drop, err_from_is_err_and, Appends, IsErrAnd, FileWriter, WriteFault, IsStopped, IsAfter, Proceeds}
 use Rattle.gc_file.specs.Counted.{saturated_count}
+use Rattle.gc_file.specs.declared.sink.Sink.{Ghosts}
 
 -- A sink that stopped in a file stopped in each longer one.
 pub IsStopped-more : {before now : Option (List ℕ)} {file : List ℕ} {sent : ℕ} (more : List ℕ)
@@ -52,26 +53,30 @@ module _ {O : Type 0} {Saw : O → List ℕ → Type 0} {w w' : FileWriter O}
         (second.goes before (file ++ xs) (first.goes before file u));
   })
 
--- What a loop has done so far: it wrote these bytes, and the sink has not failed.
-pub record Wrote {O : Type 0} (Saw : O → List ℕ → Type 0) (old new : FileWriter O)
-    (taken now : Option (List ℕ)) (failures_old failures_new : ℕ) (made : List ℕ) : Type 0 where
-  pub bytes : Proceeds Saw old new taken now (Ok tt) made
-  pub counted : failures_new ≡ failures_old
+-- What a loop has done so far: it wrote these bytes to the sink, which has not failed.
+pub record Wrote {O S : Type 0} (Saw : O → List ℕ → Type 0) (sink : Ghosts S)
+    (old new : FileWriter O) (before now : S) (made : List ℕ) : Type 0 where
+  pub bytes : Proceeds Saw old new (sink.taken before) (sink.taken now) (Ok tt) made
+  pub counted : sink.failures now ≡ sink.failures before
 
-module _ {O : Type 0} {Saw : O → List ℕ → Type 0} {v w w' : FileWriter O}
-    {taken now now' : Option (List ℕ)} {m n : ℕ} {xs ys zs : List ℕ} where
+module _ {O S : Type 0} {Saw : O → List ℕ → Type 0} {sink : Ghosts S} {v w w' : FileWriter O}
+    {before now then : S} {xs ys zs : List ℕ} where
   -- It writes more bytes,
-  pub Wrote-more : {k : ℕ} → xs ++ ys ≡ zs → Wrote Saw v w taken now m n xs
-      → Proceeds Saw w w' now now' (Ok tt) ys → k ≡ n → Wrote Saw v w' taken now' m k zs
-  Wrote-more is so_far more none = record {
-    bytes = Proceeds-step is so_far.bytes more;
-    counted = none ∙ so_far.counted;
+  pub Wrote-more : xs ++ ys ≡ zs → Wrote Saw sink v w before now xs
+      → record {
+        bytes : Proceeds Saw w w' (sink.taken now) (sink.taken then) (Ok tt) ys;
+        counted : sink.failures then ≡ sink.failures now;
+      } → Wrote Saw sink v w' before then zs
+  Wrote-more is so_far more = record {
+    bytes = Proceeds-step is so_far.bytes more.bytes;
+    counted = more.counted ∙ so_far.counted;
   }
 
   -- or the sink stops in them, before the rest.
   pub Wrote-exit : {e : WriteFault} {all : List ℕ} (r : Result (Unit {0}) WriteFault)
       (rest : List ℕ) → IsErrAnd r (λ y. y ≡ e) → xs ++ ys ≡ zs → zs ++ rest ≡ all
-      → Wrote Saw v w taken now m n xs → Proceeds Saw w w' now now' (Err e) ys
-      → Proceeds Saw v w' taken now' r all
+      → Wrote Saw sink v w before now xs
+      → Proceeds Saw w w' (sink.taken now) (sink.taken then) (Err e) ys
+      → Proceeds Saw v w' (sink.taken before) (sink.taken then) r all
   Wrote-exit r rest exit is whole so_far more =
       Proceeds-exit r rest exit whole (Proceeds-step is so_far.bytes more)

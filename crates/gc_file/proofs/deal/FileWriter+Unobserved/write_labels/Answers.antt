@@ -22,8 +22,7 @@ loop-done-preserved g c =
       omega arith,
       Wrote-more
           (label_bytes-next c.args.of.now.seed.now c.args.of.now.first bits done next (omega arith) (omega arith))
-          c.loop-done.invariant.1 c.in_ok-write_some_labels.ensures.bytes
-          c.in_ok-write_some_labels.ensures.counted,
+          c.loop-done.invariant.1 c.in_ok-write_some_labels.ensures,
     )
 
 pub returns-clause-bytes : goal.returns-clause-bytes

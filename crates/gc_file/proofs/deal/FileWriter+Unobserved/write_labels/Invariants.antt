@@ -6,8 +6,7 @@ use Rattle.gc_file.proofs.deal.FileWriter+Unobserved.write_labels.Given as goal
 abbrev pub invariant-loop-done : goal.invariant-loop-done
 invariant-loop-done g l =
     (l.done ≤ length l.of.bits.now)
-    × Wrote Unseen l.initial.self l.self (g.S.Sink.taken l.initial.sink) (g.S.Sink.taken l.sink)
-    (g.S.Sink.failures l.initial.sink) (g.S.Sink.failures l.sink)
+    × Wrote Unseen g.S.Sink l.initial.self l.self l.initial.sink l.sink
     (label_bytes l.of.seed.now l.of.first (take l.done l.of.bits.now))
 
 abbrev pub decreases-loop-done : goal.decreases-loop-done

@@ -33,7 +33,7 @@ returns-in_err-write-clause-bytes g c =
 pub loop-i-preserved : goal.loop-i-preserved
 loop-i-preserved g c =
     Wrote-more (here g (goal.at.loop-i-preserved g c).After-to_bytes) c.loop-i.invariant
-    c.in_ok-write.ensures.bytes c.in_ok-write.ensures.counted
+    c.in_ok-write.ensures
 
 pub returns-clause-bytes : goal.returns-clause-bytes
 returns-clause-bytes g c =

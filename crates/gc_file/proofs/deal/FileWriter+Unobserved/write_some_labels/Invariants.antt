@@ -5,6 +5,5 @@ use Rattle.gc_file.proofs.deal.FileWriter+Unobserved.write_some_labels.Given as 
 
 abbrev pub invariant-loop-i : goal.invariant-loop-i
 invariant-loop-i g l =
-    Wrote Unseen l.initial.self l.self (g.S.Sink.taken l.initial.sink) (g.S.Sink.taken l.sink)
-    (g.S.Sink.failures l.initial.sink) (g.S.Sink.failures l.sink)
+    Wrote Unseen g.S.Sink l.initial.self l.self l.initial.sink l.sink
     (label_bytes l.of.seed.now l.of.first (take l.i l.of.bits.now))

@@ -30,7 +30,7 @@ returns-in_err-write-clause-bytes g c =
 pub loop-k-preserved : goal.loop-k-preserved
 loop-k-preserved g c =
     Wrote-more (here g (goal.at.loop-k-preserved g c).After-decode_byte) c.loop-k.invariant
-    c.in_ok-write.ensures.bytes c.in_ok-write.ensures.counted
+    c.in_ok-write.ensures
 
 pub returns-clause-bytes : goal.returns-clause-bytes
 returns-clause-bytes g c =

@@ -18,7 +18,7 @@ loop-k-preserved g c =
     let k = c.loop-k.k in
     Wrote-more (entries-more o garbling 0 (4 * k) 4 _ (4 * (k + 1))
     c.four_entry_pairs-pairs.ensures (omega arith) (omega arith))
-    c.loop-k.invariant c.in_ok-write_pairs.ensures.bytes c.in_ok-write_pairs.ensures.counted
+    c.loop-k.invariant c.in_ok-write_pairs.ensures
 
 pub returns-clause-bytes : goal.returns-clause-bytes
 returns-clause-bytes g c =

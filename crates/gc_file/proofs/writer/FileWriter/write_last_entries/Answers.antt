@@ -20,7 +20,7 @@ loop-i-preserved g c =
     let first = c.args.first in let i = c.loop-i.i in let done = i + 1 - first in
     Wrote-more (entries-one o garbling first (i - first) i done c.pair_bytes.ensures
     c.output_entry-entry_zero.ensures c.output_entry-entry_one.ensures (omega arith) (omega arith))
-    c.loop-i.invariant c.in_ok-write.ensures.bytes c.in_ok-write.ensures.counted
+    c.loop-i.invariant c.in_ok-write.ensures
 
 pub returns-clause-bytes : goal.returns-clause-bytes
 returns-clause-bytes g c =

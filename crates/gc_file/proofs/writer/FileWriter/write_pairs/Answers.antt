@@ -14,4 +14,4 @@ pub loop-pair-preserved : goal.loop-pair-preserved
 loop-pair-preserved g c =
     Wrote-more
     (flat_map-step entry_bytes _ c.loop-pair-test.true c.pair-item.is c.pair_bytes.ensures)
-    c.loop-pair.invariant c.in_ok-write.ensures.bytes c.in_ok-write.ensures.counted
+    c.loop-pair.invariant c.in_ok-write.ensures

@@ -4,7 +4,5 @@ use Rattle.gc_file.proofs.writer.FileWriter.write_pairs.Given as goal
 
 abbrev pub invariant-loop-pair : goal.invariant-loop-pair
 invariant-loop-pair g l =
-    Wrote g.O.Observer.saw l.initial.self l.self (g.S.Sink.taken l.initial.sink)
-    (g.S.Sink.taken l.sink)
-    (g.S.Sink.failures l.initial.sink) (g.S.Sink.failures l.sink)
+    Wrote g.O.Observer.saw g.S.Sink l.initial.self l.self l.initial.sink l.sink
     (flat_map entry_bytes (take l.pair-index l.pairs))

@@ -12,4 +12,4 @@ returns-in_err-write-clause-bytes g c =
 pub loop-row-preserved : goal.loop-row-preserved
 loop-row-preserved g c =
     Wrote-more (flat_map-step row_bytes _ c.loop-row-test.true c.row-item.is c.pair_bytes.ensures)
-    c.loop-row.invariant c.in_ok-write.ensures.bytes c.in_ok-write.ensures.counted
+    c.loop-row.invariant c.in_ok-write.ensures
