@@ -7,38 +7,30 @@ use Rattle.gc_file.proofs.deal.write_labels.Goals.{After-as_slice}
 use Rattle.gc_file.proofs.deal.write_labels.Goals as goal
 
 pub overflow_cast-bits : goal.overflow_cast-bits
-overflow_cast-bits g c =
-    let lawful = c.law_lawful.ensures in
-    let room = first_wire-room c.args.circuit.now lawful c.args.index _ c.requires in
-    record { fits = omega arith }
+overflow_cast-bits g c = record {
+  fits = omega (arith, first_wire-room c.args.circuit.now c.law_lawful.ensures _ _ c.requires);
+}
 
 pub write_labels-requires : goal.write_labels-requires
-write_labels-requires g c = omega (
-  arith,
-  first_wire-room c.args.circuit.now c.law_lawful.ensures c.args.index _ c.requires,
-  c.first_wire-first.ensures,
-)
+write_labels-requires g c =
+    omega (arith, first_wire-room c.args.circuit.now c.law_lawful.ensures _ _ c.requires)
 
 -- The file is the header and the labels,
 whole : (g : Over) (c : After-as_slice g) →
     c.as_slice.result.now ++ label_bytes c.args.seed.now c.first_wire-first.result c.args.bits.now
     ≡ label_file (label_parts_of c.args.circuit.now c.args.seed.now c.args.index c.args.bits.now)
 whole g c =
-    let a = c.args in
     rw (c.as_slice.ensures.value, c.label_header.ensures)
-    (label_file-is a.circuit.now a.seed.now a.index a.bits.now c.first_wire-first.result
-    c.first_wire-first.ensures)
+    (label_file-is c.args.circuit.now c.args.seed.now _ _ _ c.first_wire-first.ensures)
 
 -- and its bytes can be counted.
 size : (g : Over) (c : After-as_slice g) → let a = c.args in
     length (label_file (label_parts_of a.circuit.now a.seed.now a.index a.bits.now)) < 2 ^ 64
-size g c =
-    let a = c.args in let lawful = c.law_lawful.ensures in
-    omega (
-      arith,
-      length-label_file a.circuit.now a.seed.now a.index a.bits.now,
-      first_wire-room a.circuit.now lawful a.index (length a.bits.now) c.requires,
-    )
+size g c = omega (
+  arith,
+  length-label_file c.args.circuit.now c.args.seed.now c.args.index c.args.bits.now,
+  first_wire-room c.args.circuit.now c.law_lawful.ensures _ _ c.requires,
+)
 
 pub returns-in_err-write-clause-file : goal.returns-in_err-write-clause-file
 returns-in_err-write-clause-file g c =

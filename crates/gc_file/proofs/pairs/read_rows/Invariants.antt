@@ -1,9 +1,7 @@
-use Rattle.std.proofs.Common.{◌≡◌, ◌*◌, take, flat_map, All}
-use Rattle.gc_file.specs.GarbledFile.{IsRowPair, row_bytes}
+use Rattle.gc_file.proofs.ReaderNames.{◌*◌, [], take, row_bytes}
+use Rattle.gc_file.specs.GarbledFile.{IsRowPair}
+use Rattle.gc_file.proofs.PairLemmas.{AreRead}
 use Rattle.gc_file.proofs.pairs.read_rows.Given as goal
 
 abbrev pub invariant-loop-i : goal.invariant-loop-i
-invariant-loop-i l = record {
-  bytes : flat_map row_bytes (take l.i l.rows) ≡ take (32 * l.i) l.bytes;
-  rows : All IsRowPair (take l.i l.rows);
-}
+invariant-loop-i l = AreRead row_bytes IsRowPair [] l.bytes (32 * l.i) (take l.i l.rows)
