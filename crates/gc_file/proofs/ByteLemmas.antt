@@ -1,9 +1,7 @@
 -- Bits on their way into bytes.
-use Rattle.gc_file.proofs.WriterNames.{◌≡◌, ℕ, zero, suc, ◌+◌, ◌*◌, ◌^◌, ◌<◌, ◌≤◌, min, nat_cmp, Bool, true, false, List, [], ◌∷◌, ◌++◌, length, length-take, length-drop, take, drop, flat_map, get_or, slice_get, Some, append-nil, refl, arith, drop-cons, length-map, get_or-drop, get_or-take, length-map-range_with_len, get_or-map-range_with_len, slice_get_within, get_or_from_slice_get, bytes_of_label, GarblingParts, decode_bits_of, EntryPair, bits_number, bytes_for, packed, entry_bytes, entry_pair_of, entry_pairs_from, entry_pairs_of}
+use Rattle.gc_file.proofs.Names.{◌≡◌, ℕ, suc, ◌+◌, ◌*◌, ◌^◌, ◌<◌, ◌≤◌, min, nat_cmp, Bool, true, false, List, ◌∷◌, ◌++◌, length, length-take, length-drop, take, drop, flat_map, get_or, slice_get, Some, append-nil, refl, arith, drop-cons, length-map, get_or-drop, get_or-take, length-map-range_with_len, get_or-map-range_with_len, slice_get_within, get_or_from_slice_get, bytes_of_label, GarblingParts, decode_bits_of, EntryPair, bits_number, entry_bytes, entry_pair_of, entry_pairs_from, entry_pairs_of, nat_tests}
 use mir.Val.{bool_byte}
 use Rattle.std.specs.Ordering.{ord_min}
-use Rattle.std.proofs.lemmas.Bool.Decides.{nat_tests}
-use Rattle.std.proofs.Math.Nat.{pow-suc}
 use Rattle.gc_half.specs.Entry.{entry_of}
 use Rattle.gc_file.proofs.ListLemmas.{flat_map-ranges}
 use Rattle.gc_file.proofs.PackLemmas.{bits_number-below}

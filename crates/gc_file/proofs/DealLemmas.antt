@@ -1,9 +1,7 @@
 -- The labels of a label file.
-use Rattle.gc_file.proofs.WriterNames.{◌≡◌, ℕ, suc, ◌+◌, ◌-◌, ◌*◌, ◌≤◌, slice_get, Some, sum, length-append, Bool, List, [], ◌∷◌, ◌++◌, length, flat_map, take, drop, refl, sym, ap, ◌∙◌, arith, take-add, take-append-drop, length-take-le, flat_map-append, sum_by_more_le, slice_get_within, get_or_from_slice_get, Netlist, IsLawful, bytes_of_label, label_magic, label_file, label_parts_of, encoded_with, encoded_from, offset_of, input_label_of, length-number_bytes}
-use Rattle.gc_netlist.specs.declared.limits.TheConstants.{MAX_WIRES}
-use Rattle.gc_label.proofs.LabelLemmas.{length-bytes_of_label}
-use Rattle.gc_file.specs.Number.{number_bytes}
-use Rattle.gc_file.proofs.SizeLemmas.{length-flat_map}
+use Rattle.gc_file.proofs.Names.{◌≡◌, ℕ, suc, ◌+◌, ◌-◌, ◌*◌, ◌≤◌, slice_get, Some, sum, length-append, Bool, List, [], ◌∷◌, ◌++◌, length, flat_map, take, drop, refl, sym, ap, ◌∙◌, arith, take-add, take-append-drop, length-take-le, flat_map-append, sum_by_more_le, slice_get_within, get_or_from_slice_get, Netlist, IsLawful, bytes_of_label, label_magic, label_file, label_parts_of, encoded_with, encoded_from, offset_of, input_label_of, MAX_WIRES, length-bytes_of_label, number_bytes}
+use Rattle.gc_file.proofs.NumberLemmas.{length-number_bytes}
+use Rattle.gc_file.proofs.PairLemmas.{length-flat_map}
 
 module _ (offset : ℕ) (zero_label : ℕ → ℕ) where
   pub encoded_with-append : (first : ℕ) (xs ys : List Bool) →

@@ -1,8 +1,8 @@
 -- Bytes are a garbled file or have a first fault.
-use Rattle.gc_file.proofs.Names.{◌≡◌, ℕ, ◌-◌, ◌*◌, ◌%◌, ◌^◌, ◌≤◌, ◌⊎◌, inl, inr, List, ◌++◌, length, take, drop, Bool, true, false, bytes_eq, slice_index, refl, sym, ap, ◌∙◌, append_assoc, arith, cases_lt, take-append-drop, take-take, take_all, length-take, length-drop, length-take-le, MAX_GATES, MAX_WIRES, FileFault, BadMagic, Truncated, Trailing, CountTooLarge, SpareBits, BadTrailer, Version, bytes_for, GarbledParts, magic, entry_count, IsGarbledFile, MatchesMagic, row_count, output_count, decode_end, trailer_end, IsTrailerRight, HasHeader, HasSpareBit, HasDecodeBits, LastingFault, bad_magic, too_many_rows, too_many_outputs, spare_bits, bad_trailer, trailing, IsHeaderInOrder, IsInOrder, FirstGarbledFault, lasting, truncated, version_of_bytes, row_size, decode_size, entry_size, AreBytes, version_of_bytes-begun}
+use Rattle.gc_file.proofs.Names.{◌≡◌, ℕ, ◌-◌, ◌*◌, ◌%◌, ◌^◌, ◌≤◌, ◌⊎◌, inl, inr, List, ◌++◌, length, take, drop, Bool, true, false, bytes_eq, slice_index, refl, sym, ◌∙◌, append_assoc, arith, cases_lt, take-append-drop, take-take, take_all, length-take, length-drop, length-take-le, MAX_GATES, MAX_WIRES, FileFault, BadMagic, Truncated, Trailing, CountTooLarge, SpareBits, BadTrailer, Version, bytes_for, GarbledParts, magic, entry_count, IsGarbledFile, MatchesMagic, row_count, output_count, decode_end, trailer_end, IsTrailerRight, HasHeader, HasSpareBit, HasDecodeBits, LastingFault, bad_magic, too_many_rows, too_many_outputs, spare_bits, bad_trailer, trailing, IsHeaderInOrder, IsInOrder, FirstGarbledFault, lasting, truncated, version_of_bytes, row_size, decode_size, entry_size, AreBytes, One, Two}
+use Rattle.gc_file.proofs.StepLemmas.{version_of_bytes-begun}
 use Rattle.std.specs.Bool.{Decides}
 use Rattle.std.proofs.lemmas.Slice.Eq.{bytes_eq-Decides}
-use Rattle.gc_file.specs.declared.parts.Version.TheVariants.{One, Two}
 use Rattle.gc_file.proofs.PlaceLemmas.{IsDecoded, begins, begun, rows_is, outputs_is, spare, is_right}
 use Rattle.gc_file.proofs.FileLemmas.{file_is}
 use Rattle.gc_file.proofs.ItemLemmas.{small, AreBytes-take, AreBytes-drop, items_spelled, row_spelling, entry_spelling}

@@ -1,6 +1,5 @@
 -- The ends of files on their way to a sink.
-use Rattle.gc_file.proofs.WriterNames.{◌≡◌, ℕ, ◌^◌, ◌<◌, List, [], ◌++◌, length, length-append, append_assoc, append-nil, Option, Result, Ok, Err, sym, ap, ◌∙◌, arith, take-append_seam, err_from_is_err_and, IsErrAnd, HoldsMessage, sha256, FileWriter, WriteFault, IsUnderWay, IsStopped, IsAfter, Proceeds, Ends, IsWritten}
-use Rattle.gc_lanes.specs.declared.hasher.LongSha256.{LongSha256}
+use Rattle.gc_file.proofs.Names.{◌≡◌, ℕ, ◌^◌, ◌<◌, List, [], ◌++◌, length, length-append, append_assoc, append-nil, Option, Result, Ok, Err, sym, ap, ◌∙◌, arith, take-append_seam, err_from_is_err_and, IsErrAnd, HoldsMessage, sha256, FileWriter, WriteFault, IsUnderWay, IsStopped, IsAfter, Proceeds, Ends, IsWritten, LongSha256}
 use Rattle.gc_file.proofs.WritingLemmas.{IsStopped-more}
 
 -- Where nothing is held, the sink took the file.

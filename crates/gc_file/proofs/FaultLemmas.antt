@@ -1,5 +1,6 @@
 -- Bytes are one garbled file or have one first fault.
-use Rattle.gc_file.proofs.Names.{◌≡◌, ℕ, ◌<◌, ◌≤◌, ◌⊎◌, inl, inr, List, length, take, refl, sym, ◌∙◌, arith, MAX_GATES, MAX_WIRES, FileFault, BadMagic, Trailing, CountTooLarge, SpareBits, BadTrailer, Version, magic, MatchesMagic, row_count, output_count, HasHeader, HasSpareBit, HasDecodeBits, IsTrailerRight, LastingFault, bad_magic, too_many_rows, too_many_outputs, spare_bits, bad_trailer, trailing, IsInOrder, FirstGarbledFault, lasting, truncated, version_of_bytes-begun}
+use Rattle.gc_file.proofs.Names.{◌≡◌, ℕ, ◌<◌, ◌≤◌, ◌⊎◌, inl, inr, List, length, take, sym, ◌∙◌, arith, MAX_GATES, MAX_WIRES, FileFault, BadMagic, Trailing, CountTooLarge, SpareBits, BadTrailer, Version, magic, MatchesMagic, row_count, output_count, HasHeader, HasSpareBit, HasDecodeBits, IsTrailerRight, LastingFault, bad_magic, too_many_rows, too_many_outputs, spare_bits, bad_trailer, trailing, IsInOrder, FirstGarbledFault}
+use Rattle.gc_file.proofs.StepLemmas.{version_of_bytes-begun}
 use Rattle.gc_file.proofs.PlaceLemmas.{begins, begun}
 
 -- The first eight bytes give the version.

@@ -1,6 +1,6 @@
 -- Parts that are whole are a garbled file.
-use Rattle.gc_file.proofs.ReaderNames.{◌≡◌, ℕ, ◌+◌, ◌<◌, List, ◌++◌, length, take, drop, map, flat_map, get_or, All, refl, sym, ap, arith, range_with_len, take-add, length-map-range_with_len, sha256, bit_in, IsSpare, number_bytes, GarbledParts, magic, row_bytes, entry_bytes, body, garbled_file, entry_count, IsLabel, IsGarbledFile, row_count, output_count, IsHeaderInOrder, version_of_bytes, row_size, decode_size, entry_size, number_bytes-u32_at}
-use Rattle.std.proofs.lemmas.List.{take_all, length-take-le, length-drop}
+use Rattle.gc_file.proofs.Names.{◌≡◌, ℕ, ◌+◌, ◌<◌, List, ◌++◌, length, take, drop, map, flat_map, get_or, All, refl, sym, ap, arith, range_with_len, take-add, length-map-range_with_len, sha256, bit_in, IsSpare, number_bytes, GarbledParts, magic, row_bytes, entry_bytes, body, garbled_file, entry_count, IsLabel, IsGarbledFile, row_count, output_count, IsHeaderInOrder, version_of_bytes, entry_size, take_all, length-take-le, length-drop}
+use Rattle.gc_file.proofs.NumberLemmas.{number_bytes-u32_at}
 use Rattle.gc_file.proofs.LabelBytesLemmas.{length-row_bytes, length-entry_bytes}
 use Rattle.gc_file.proofs.PairLemmas.{length-pairs}
 use Rattle.gc_file.proofs.PlaceLemmas.{IsDecoded, begins}

@@ -1,7 +1,6 @@
 -- Bytes of the form of a label file.
-use Rattle.gc_file.proofs.ReaderNames.{◌≡◌, ℕ, ◌<◌, ◌≤◌, List, ◌++◌, length, take, drop, flat_map, get_or, All, sym, ap, ◌∙◌, arith, bytes_of_label, length-bytes_of_label, number_bytes, u32_at, IsLabel, u32_at-lt, number_bytes-u32_at, MatchesMagic, label_count, IsLabelForm}
-use Rattle.std.proofs.lemmas.List.{take-append-drop, take_all, length-drop}
-use Rattle.gc_file.specs.LabelFile.{label_magic, label_file, IsLabelFile}
+use Rattle.gc_file.proofs.Names.{◌≡◌, ℕ, ◌<◌, ◌≤◌, List, ◌++◌, length, take, drop, flat_map, get_or, All, sym, ap, ◌∙◌, arith, bytes_of_label, length-bytes_of_label, number_bytes, u32_at, IsLabel, MatchesMagic, label_count, IsLabelForm, take-append-drop, take_all, length-drop, label_magic, label_file, IsLabelFile}
+use Rattle.gc_file.proofs.NumberLemmas.{u32_at-lt, number_bytes-u32_at}
 use Rattle.gc_file.proofs.PairLemmas.{length-flat_map}
 use Rattle.gc_file.proofs.FileLemmas.{take_plus}
 

@@ -1,9 +1,6 @@
 -- Items of one size: labels, row pairs and entry pairs, and their bytes.
-use Rattle.gc_file.proofs.Names.{◌≡◌, ℕ, zero, suc, ◌+◌, ◌*◌, ◌<◌, inl, inr, List, [], ◌∷◌, ◌++◌, length, take, drop, flat_map, get_or, All, refl, ap, ◌∙◌, arith, cases_lt, take-append-drop, take_at, drop_at, get_or_past, length-drop, length-take-le, bytes_of_label, label_of_bytes, length-bytes_of_label, label_of_bytes-bytes_of_label, bytes_of_label-label_of_bytes, label_of_bytes-lt, length-row_bytes, length-entry_bytes, row_bytes, entry_bytes, IsLabel, AreBytes}
-use Rattle.std.proofs.Math.Nat.{mul-suc}
-use Rattle.std.proofs.lemmas.List.Elements.{All-cons, All-take, All-drop}
-use Rattle.gc_half.specs.declared.garbling.RowPair.{RowPair}
-use Rattle.gc_file.specs.declared.parts.EntryPair.{EntryPair}
+use Rattle.gc_file.proofs.Names.{◌≡◌, ℕ, zero, suc, ◌+◌, ◌*◌, ◌<◌, List, [], ◌∷◌, ◌++◌, length, take, drop, flat_map, get_or, All, refl, ◌∙◌, arith, cases_lt, take-append-drop, take_at, drop_at, get_or_past, length-drop, length-take-le, bytes_of_label, label_of_bytes, length-bytes_of_label, label_of_bytes-bytes_of_label, bytes_of_label-label_of_bytes, label_of_bytes-lt, row_bytes, entry_bytes, IsLabel, AreBytes, mul-suc, All-cons, All-take, All-drop, RowPair, EntryPair}
+use Rattle.gc_file.proofs.LabelBytesLemmas.{length-row_bytes, length-entry_bytes}
 
 -- Each place of bytes has a byte, or is past their end.
 pub small : (bytes : List ℕ) → AreBytes bytes → (i : ℕ) → get_or bytes i 0 < 256

@@ -1,11 +1,5 @@
 -- How many bytes a pair of labels has.
-use Rattle.std.proofs.Common.{◌≡◌, ℕ, ◌++◌, length, length-append, ◌∙◌}
-use Rattle.gc_label.specs.Label.{bytes_of_label}
-use Rattle.gc_label.proofs.LabelLemmas.{length-bytes_of_label}
-use Rattle.gc_half.specs.declared.garbling.RowPair.{RowPair}
-use Rattle.gc_file.specs.declared.parts.EntryPair.{EntryPair}
-use Rattle.gc_file.specs.GarbledFile.{row_bytes, entry_bytes}
-use Rattle.gc_file.specs.LabelBytes.{bytes_by}
+use Rattle.gc_file.proofs.Names.{◌≡◌, ℕ, ◌++◌, length, length-append, ◌∙◌, bytes_of_label, length-bytes_of_label, RowPair, EntryPair, row_bytes, entry_bytes, bytes_by}
 
 length-two : (a b : ℕ) → length (bytes_of_label a ++ bytes_of_label b) ≡ 32
 length-two a b = length-append (bytes_of_label a) (bytes_of_label b)

@@ -1,6 +1,7 @@
 -- Label files.
-use Rattle.gc_file.proofs.Names.{◌≡◌, ◌≢◌, ℕ, ◌+◌, ◌*◌, ◌≤◌, ◌⊎◌, inl, inr, List, ◌++◌, length, take, drop, flat_map, refl, sym, ap, ◌∙◌, append_assoc, length-append, arith, cases_lt, take-append-le, drop_at, take_all, length-drop, MAX_WIRES, bytes_of_label, label_of_bytes, length-bytes_of_label, FileFault, BadMagic, Truncated, Trailing, CountTooLarge, number_bytes, u32_at, MatchesMagic, label_count, labels_end, FirstLabelFault, bad_label_magic, too_many_labels, labels_trailing, header_truncated, labels_truncated, AreBytes, length-number_bytes, u32_at-append, u32_at-number_bytes, length-flat_map}
-use Rattle.gc_file.specs.LabelFile.{LabelFileParts, label_magic, label_file, IsLabelFile}
+use Rattle.gc_file.proofs.Names.{◌≡◌, ◌≢◌, ℕ, ◌+◌, ◌*◌, ◌≤◌, ◌⊎◌, inl, inr, List, ◌++◌, length, take, drop, flat_map, refl, sym, ap, ◌∙◌, append_assoc, length-append, arith, cases_lt, take-append-le, drop_at, take_all, length-drop, MAX_WIRES, bytes_of_label, label_of_bytes, length-bytes_of_label, FileFault, BadMagic, Truncated, Trailing, CountTooLarge, number_bytes, u32_at, MatchesMagic, label_count, labels_end, FirstLabelFault, bad_label_magic, too_many_labels, labels_trailing, header_truncated, labels_truncated, AreBytes, LabelFileParts, label_magic, label_file, IsLabelFile}
+use Rattle.gc_file.proofs.NumberLemmas.{length-number_bytes, u32_at-append, u32_at-number_bytes}
+use Rattle.gc_file.proofs.PairLemmas.{length-flat_map}
 use Rattle.gc_file.proofs.HeaderLemmas.{begun_before}
 use Rattle.gc_file.proofs.FormLemmas.{begins, label_file_is}
 use Rattle.gc_file.proofs.ItemLemmas.{small, AreBytes-drop, items_from, items_back, items_spelled, label_spelling}

@@ -1,5 +1,5 @@
 -- Lists that are gone through element by element.
-use Rattle.gc_file.proofs.WriterNames.{◌≡◌, ℕ, zero, suc, ◌+◌, ◌<◌, List, ◌++◌, length, take, drop, map, flat_map, get_or, append-nil, append_assoc, refl, arith, range_with_len, take_more, take-append-drop, flat_map-append}
+use Rattle.gc_file.proofs.Names.{◌≡◌, ℕ, zero, suc, ◌+◌, ◌<◌, List, ◌++◌, length, take, drop, map, flat_map, get_or, append-nil, append_assoc, refl, arith, range_with_len, take_more, take-append-drop, flat_map-append}
 
 -- What is made of the first elements, and of one element more,
 pub flat_map-step : {X A : Type 0} (f : X → List A) (xs : List X) {i : ℕ} {x : X} {made : List A}

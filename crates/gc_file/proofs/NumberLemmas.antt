@@ -1,12 +1,8 @@
 -- Whole numbers in files.
-use Rattle.std.proofs.Common.{◌≡◌, ℕ, ◌+◌, ◌^◌, ◌<◌, ◌≤◌, inl, inr, List, ◌++◌, length, take, drop, get_or, ap, ◌∙◌, length-drop, arith}
-use Rattle.std.proofs.lemmas.Bool.{cases_lt}
-use Rattle.std.proofs.lemmas.List.{drop-append-le, drop_at, get_or-take, get_or-drop, get_or_past, length-take-le}
-use Rattle.std.specs.Int.{w32, from_le_bytes}
+use Rattle.gc_file.proofs.Names.{◌≡◌, ℕ, ◌+◌, ◌^◌, ◌<◌, ◌≤◌, inl, inr, List, ◌++◌, length, take, drop, get_or, ap, ◌∙◌, length-drop, arith, cases_lt, drop-append-le, drop_at, get_or-take, get_or-drop, get_or_past, length-take-le, number_bytes, u32_at}
 use Rattle.std.proofs.lemmas.Nat.{le_bytes_4}
 use Rattle.byteorder.specs.Endian.{little_bytes, little_number}
 use Rattle.byteorder.specs.Numbers.{little_number-reads_back, little_from-append, little_from-lt, length-bytes_low_first}
-use Rattle.gc_file.specs.Number.{number_bytes, u32_at}
 
 -- A number stays the same whatever follows.
 pub u32_at-append : (place : ℕ) (xs ys : List ℕ) → place + 4 ≤ length xs

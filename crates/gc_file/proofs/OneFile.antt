@@ -1,8 +1,9 @@
 -- The parts of a garbled file are determined by its bytes.
-use Rattle.gc_file.proofs.Names.{◌≡◌, ℕ, List, [], ◌++◌, length, take, drop, map, flat_map, refl, sym, ap, ◌∙◌, append_assoc, length-append, arith, append-nil, take_at, drop_at, length-row_bytes, length-entry_bytes, number_bytes, packed, bit_in, GarbledParts, magic, row_bytes, entry_bytes, header, body, garbled_file, entry_count, IsGarbledFile, row_count, output_count, trailer_end, IsInOrder, FirstGarbledFault, lasting, truncated, FileFault, version_of_bytes, row_size, decode_size, entry_size, length-number_bytes, u32_at-number_bytes, length-pairs, version_of_bytes-begun}
-use Rattle.std.specs.List.{range_with_len}
-use Rattle.sha2.specs.Sha256.{sha256}
-use Rattle.sha2.proofs.Facts256.{length-sha256}
+use Rattle.gc_file.proofs.Names.{◌≡◌, ℕ, List, [], ◌++◌, length, take, drop, map, flat_map, refl, sym, ap, ◌∙◌, append_assoc, length-append, arith, append-nil, take_at, drop_at, number_bytes, packed, bit_in, GarbledParts, magic, row_bytes, entry_bytes, header, body, garbled_file, entry_count, IsGarbledFile, row_count, output_count, trailer_end, IsInOrder, FirstGarbledFault, FileFault, version_of_bytes, row_size, decode_size, entry_size, range_with_len, sha256, length-sha256}
+use Rattle.gc_file.proofs.LabelBytesLemmas.{length-row_bytes, length-entry_bytes}
+use Rattle.gc_file.proofs.NumberLemmas.{length-number_bytes, u32_at-number_bytes}
+use Rattle.gc_file.proofs.PairLemmas.{length-pairs}
+use Rattle.gc_file.proofs.StepLemmas.{version_of_bytes-begun}
 use Rattle.gc_file.proofs.PackLemmas.{length-packed, packed-not_spare, unpacked-packed}
 use Rattle.gc_file.proofs.PlaceLemmas.{IsDecoded, parts, nested, length-magic, begins, begun, parts_in_order, whole_is}
 use Rattle.gc_file.proofs.ItemLemmas.{items_from, items_back, row_of, row_spelling, entry_of, entry_spelling}

@@ -1,6 +1,5 @@
 -- Pairs of labels and their bytes.
-use Rattle.gc_file.proofs.ReaderNames.{◌≡◌, ℕ, ◌+◌, ◌-◌, ◌*◌, ◌%◌, ◌<◌, List, [], ◌∷◌, ◌++◌, length, take, drop, flat_map, append-nil, append_assoc, length-append, All, refl, ap, arith, take-add, flat_map-append, All-push}
-use Rattle.gc_file.specs.LabelBytes.{bytes_by}
+use Rattle.gc_file.proofs.Names.{◌≡◌, ℕ, ◌+◌, ◌-◌, ◌*◌, ◌%◌, ◌<◌, List, [], ◌∷◌, ◌++◌, length, take, drop, flat_map, append-nil, append_assoc, length-append, All, refl, ap, arith, take-add, flat_map-append, All-push, bytes_by}
 use Rattle.gc_file.proofs.LabelBytesLemmas.{length-bytes_by}
 use Rattle.gc_file.proofs.PieceLemmas.{empty_list}
 

@@ -1,6 +1,5 @@
 -- Bytes that are put behind the parts of a file, each part to its size.
-use Rattle.gc_file.proofs.ReaderNames.{◌≡◌, ℕ, ◌+◌, ◌-◌, ◌<◌, ◌≤◌, List, [], ◌∷◌, ◌++◌, length, take, drop, refl, ◌∙◌, append_assoc, length-append, arith, IsFilled, IsCutUp}
-use Rattle.std.proofs.lemmas.List.{take-append-drop, length-take, length-drop}
+use Rattle.gc_file.proofs.Names.{◌≡◌, ℕ, ◌+◌, ◌-◌, ◌<◌, ◌≤◌, List, [], ◌∷◌, ◌++◌, length, take, drop, refl, ◌∙◌, append_assoc, length-append, arith, IsFilled, IsCutUp, take-append-drop, length-take, length-drop}
 
 -- A list of no elements is empty.
 pub empty_list : {X : Type 0} (xs : List X) → length xs ≡ 0 → xs ≡ []

@@ -1,6 +1,6 @@
 -- Where the parts of a garbled file are, and what is wrong with them.
-use Rattle.gc_file.proofs.ReaderNames.{◌≡◌, ℕ, ◌+◌, ◌-◌, ◌%◌, ◌<◌, ◌≤◌, List, ◌++◌, length, take, slice_index, refl, sym, ◌∙◌, append_assoc, length-append, arith, LongSha256, sha256, SpareBits, BadTrailer, Trailing, Version, One, Two, IsSpare, magic, MatchesMagic, row_count, output_count, decode_end, entries_end, trailer_end, IsTrailerRight, HasHeader, HasSpareBit, HasDecodeBits, LastingFault, spare_bits, bad_trailer, trailing, IsHeaderInOrder, IsInOrder, version_of_bytes, row_size, decode_size, entry_size, IsFilled, IsBody, u32_at-append}
-use Rattle.std.proofs.lemmas.List.{take-append-le, take_at, drop_at, take_all, get_or-append-add, get_or_append_left}
+use Rattle.gc_file.proofs.Names.{◌≡◌, ℕ, ◌+◌, ◌-◌, ◌%◌, ◌<◌, ◌≤◌, List, ◌++◌, length, take, slice_index, refl, sym, ◌∙◌, append_assoc, length-append, arith, LongSha256, sha256, SpareBits, BadTrailer, Trailing, Version, One, Two, IsSpare, magic, MatchesMagic, row_count, output_count, decode_end, entries_end, trailer_end, IsTrailerRight, HasHeader, HasSpareBit, HasDecodeBits, LastingFault, spare_bits, bad_trailer, trailing, IsHeaderInOrder, IsInOrder, version_of_bytes, row_size, decode_size, entry_size, IsFilled, IsBody, take-append-le, take_at, drop_at, take_all, get_or-append-add, get_or_append_left}
+use Rattle.gc_file.proofs.NumberLemmas.{u32_at-append}
 
 pub length-magic : (v : Version) → length (magic v) ≡ 8
 length-magic One = refl

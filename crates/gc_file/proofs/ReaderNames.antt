@@ -1,27 +1,8 @@
--- The names that most proofs of this crate cite, passed on from one place. Declares nothing.
-pub use Rattle.std.proofs.Common.{◌≡◌, ℕ, ◌+◌, ◌<◌, List, ◌++◌, length, take, drop, map, flat_map, get_or, All, refl, sym, ap, subst, arith, Bor, ◌≤◌, ◌∙◌, ◌-◌, slice_index, append_assoc, length-append, ◌*◌, ◌%◌, [], ◌∷◌, append-nil, rules, inl, inr, Option, Some, None, IfSome, Result, Ok, Err, ◌^◌, ◌/◌}
-pub use Rattle.std.proofs.Math.Seq.{take-add}
-pub use Rattle.std.proofs.lemmas.Bool.Decides.{nat_tests}
-pub use Rattle.std.proofs.lemmas.Grind.{flat_map-append}
-pub use Rattle.std.proofs.lemmas.List.Elements.{All-push}
-pub use Rattle.std.proofs.lemmas.List.FromFn.{length-map-range_with_len, map-range_with_len_more}
-pub use Rattle.std.proofs.lemmas.Result.{err_from_is_err_and}
-pub use Rattle.std.specs.List.{range_with_len}
-pub use Rattle.gc_file.proofs.NumberLemmas.{number_bytes-u32_at, u32_at-lt, u32_at-append}
-pub use Rattle.gc_file.specs.DecodeBits.{bit_in, IsSpare}
-unfoldable pub use Rattle.gc_file.specs.GarbledFile.{garbled_file}
-pub use Rattle.gc_file.specs.GarbledFile.{GarbledParts, magic, row_bytes, entry_bytes, body, entry_count, IsLabel, IsGarbledFile}
-pub use Rattle.gc_file.specs.Number.{number_bytes, u32_at}
-pub use Rattle.gc_file.specs.declared.parts.Version.{Version}
-pub use Rattle.gc_file.specs.declared.parts.Version.TheVariants.{One, Two}
-pub use Rattle.gc_label.proofs.LabelLemmas.{length-bytes_of_label, bytes_of_label-label_of_bytes}
-pub use Rattle.gc_label.specs.Label.{bytes_of_label}
-unfoldable pub use Rattle.gc_file.specs.Body.{version_of_bytes}
-pub use Rattle.gc_file.specs.Body.{row_size, decode_size, entry_size, IsFilled, IsCutUp, IsBody, IsHashed, IsGiven}
-pub use Rattle.gc_file.specs.FileFault.{row_count, output_count, IsHeaderInOrder, MatchesMagic, label_count, decode_end, entries_end, trailer_end, IsTrailerRight, HasHeader, HasSpareBit, HasDecodeBits, LastingFault, bad_magic, too_many_rows, too_many_outputs, spare_bits, bad_trailer, trailing, IsInOrder, lasting, truncated, bad_label_magic, too_many_labels, labels_trailing, header_truncated, labels_truncated}
-pub use Rattle.gc_file.specs.Reading.{before_trailer, IsLabelForm, Fed, IsFed}
-pub use Rattle.gc_file.specs.Taking.{IsAnswer, IsTaken, IsAnswerOfAll, IsTaking}
-pub use Rattle.gc_file.specs.declared.fault.FileFault.{FileFault}
-pub use Rattle.gc_file.specs.declared.fault.FileFault.TheVariants.{SpareBits, BadTrailer, Trailing}
-pub use Rattle.sha2.specs.Sha256.{sha256}
-pub use Rattle.gc_lanes.specs.declared.hasher.LongSha256.{LongSha256}
+-- The names that the proofs of readers cite, passed on from one place. Declares nothing.
+pub use Rattle.gc_file.proofs.HeaderLemmas.{header_in_order, lasts_piece}
+unfoldable pub use Rattle.gc_file.proofs.Names.{version_of_bytes}
+pub use Rattle.gc_file.proofs.Names.{GarbledParts, IfErr-weaker, IfSome, IsCutUp, IsGiven, IsHashed, IsLabel, IsLabelPair, IsRowPair, IsSpare, IsTaking, Keeps, List, [], ap, append_assoc, arith, bad_label_magic, bad_magic, before_trailer, bit_in, bytes_by, bytes_of_label, bytes_of_label-label_of_bytes, decode_size, div-add-mod', div-eq_of_lt, entry_size, err_from_is_err_and, flat_map, header_truncated, labels_trailing, labels_truncated, lasting, length, map, map-range_with_len_more, mod-lt, nat_tests, on_ok_weaker, one-le-pow, output_count, range_with_len, refl, row_bytes, row_size, rules, sha256, shr_and_one, slice_index, subst, take, take-append-drop, take_more_set, take_rest, too_many_labels, too_many_outputs, too_many_rows, truncated, ℕ, ◌%◌, ◌*◌, ◌++◌, ◌+◌, ◌-◌, ◌/◌, ◌<◌, ◌^◌, ◌∙◌, ◌≡◌}
+pub use Rattle.gc_file.proofs.PairLemmas.{AreRead, AreRead-more, length-view, whole_pairs}
+pub use Rattle.gc_file.proofs.PlaceLemmas.{ends_early, in_order}
+pub use Rattle.gc_file.proofs.StepLemmas.{bad_trailer_step, body_new, body_step, given_step, hashed_more, message_step, more_step, spare_step, view_step}
+pub use Rattle.gc_file.proofs.TakeLemmas.{fed_length, most_bytes, taken_all, taken_fault, taking_more}

@@ -1,12 +1,8 @@
 -- How many bytes the files have.
-use Rattle.gc_file.proofs.WriterNames.{◌≡◌, ℕ, ◌+◌, ◌*◌, ◌^◌, ◌<◌, ◌≤◌, List, [], ◌∷◌, length, length-append, flat_map, refl, ap, arith, sha256, length-sha256, Netlist, canonical_text, GarblingParts, One, Two, EntryPair, bytes_for, GarbledParts, magic, body, row_bytes, entry_bytes, garbled_file, parts_of, length-number_bytes, length-packed, IsSmall}
-use Rattle.gc_file.specs.declared.parts.Version.{Version}
+use Rattle.gc_file.proofs.Names.{◌≡◌, ℕ, ◌+◌, ◌*◌, ◌^◌, ◌<◌, ◌≤◌, List, length, length-append, refl, ap, arith, sha256, length-sha256, Netlist, canonical_text, GarblingParts, One, Two, EntryPair, bytes_for, GarbledParts, body, row_bytes, entry_bytes, garbled_file, parts_of, IsSmall, Version, IsLawful, and_count, output_wires, FitsCircuit, decode_bits_of, entry_count, honest_parts_with, version_entries, ◌∙◌}
+use Rattle.gc_file.proofs.NumberLemmas.{length-number_bytes}
+use Rattle.gc_file.proofs.PackLemmas.{length-packed}
 use Rattle.gc_file.proofs.ByteLemmas.{length-decode_bits, length-entry_pairs}
-use Rattle.gc_netlist.specs.Circuit.{IsLawful, and_count, output_wires}
-use Rattle.gc_half.specs.Garbling.{FitsCircuit, decode_bits_of}
-use Rattle.gc_file.specs.GarbledFile.{entry_count}
-use Rattle.gc_file.specs.Honest.{honest_parts_with, version_entries}
-use Rattle.std.proofs.Common.{◌∙◌}
 use Rattle.gc_file.proofs.LabelBytesLemmas.{length-row_bytes, length-entry_bytes}
 use Rattle.gc_file.proofs.PlaceLemmas.{length-magic}
 pub use Rattle.gc_file.proofs.PairLemmas.{length-flat_map, length-pairs}

@@ -1,8 +1,5 @@
 -- A piece that comes after the header of a garbled file.
-use Rattle.gc_file.proofs.ReaderNames.{◌≡◌, ℕ, ◌-◌, ◌<◌, List, [], ◌++◌, length, take, refl, sym, ◌∙◌, append_assoc, append-nil, length-append, subst, Option, IfSome, Bor, rules, arith, LongSha256, sha256, SpareBits, BadTrailer, Trailing, Version, One, Two, magic, output_count, LastingFault, IsHeaderInOrder, IsSpare, version_of_bytes, row_size, decode_size, entry_size, IsHashed, IsGiven, IsBody, IsCutUp, IsFilled}
-use Rattle.gc_file.specs.Reading.{before_trailer}
-use Rattle.std.proofs.lemmas.List.{get_or-take, take_at}
-use Rattle.gc_lanes.specs.Hasher.{HoldsMessage}
+use Rattle.gc_file.proofs.Names.{◌≡◌, ℕ, ◌-◌, ◌<◌, List, [], ◌++◌, length, take, refl, sym, ◌∙◌, append_assoc, append-nil, length-append, subst, Option, IfSome, Bor, rules, arith, LongSha256, sha256, SpareBits, BadTrailer, Trailing, Version, One, Two, magic, output_count, LastingFault, IsHeaderInOrder, IsSpare, version_of_bytes, row_size, decode_size, entry_size, IsHashed, IsGiven, IsBody, IsCutUp, IsFilled, before_trailer, get_or-take, take_at, HoldsMessage}
 use Rattle.gc_file.proofs.PieceLemmas.{empty_list, filled_more, left_over, whole_more, message_more}
 use Rattle.gc_file.proofs.PlaceLemmas.{begins, spare_fault, bad_trailer_fault, more_fault}
 
@@ -87,35 +84,35 @@ module _ {h r d e t : List ℕ} {hasher : LongSha256} (body : IsBody h r d e t h
 
   -- where the decode bits have no spare bit
   module _ (no_spare : length (d ++ q2) ≡ decode_size h → IsSpare (output_count h) (d ++ q2) → ⊥)
-      where
-    pub bad_trailer_step : length (t ++ q4) ≡ 32 → (t ++ q4 ≡ sha256 message → ⊥)
-        → LastingFault whole BadTrailer
-    bad_trailer_step full wrong =
-        let decode = filled.decode_first (omega arith) in
-        rw (whole_more body.filled cuts h, append_assoc)
-        (bad_trailer_fault h (r ++ q1) (d ++ q2) (e ++ q3) (t ++ q4 ++ left)
-        (record { header = body.whole; rows = filled.rows_first (omega arith); decode = decode })
-        (filled.entries_first (omega arith)) body.in_order (no_spare decode)
-        (omega (arith, length-append (t ++ q4) left))
-        (λ right. wrong (sym (take_at (t ++ q4) left 32 full) ∙ right)))
-
-    module _ {after : LongSha256} (hashed : IsHashed message (t ++ q4) after) where
-      pub more_step : 0 < length left → LastingFault whole Trailing
-      more_step some =
-          let full = left_over body.filled cuts some in
+    where
+      pub bad_trailer_step : length (t ++ q4) ≡ 32 → (t ++ q4 ≡ sha256 message → ⊥)
+          → LastingFault whole BadTrailer
+      bad_trailer_step full wrong =
           let decode = filled.decode_first (omega arith) in
           rw (whole_more body.filled cuts h, append_assoc)
-          (more_fault h (r ++ q1) (d ++ q2) (e ++ q3) (t ++ q4 ++ left)
+          (bad_trailer_fault h (r ++ q1) (d ++ q2) (e ++ q3) (t ++ q4 ++ left)
           (record { header = body.whole; rows = filled.rows_first (omega arith); decode = decode })
           (filled.entries_first (omega arith)) body.in_order (no_spare decode)
           (omega (arith, length-append (t ++ q4) left))
-          (take_at (t ++ q4) left 32 full ∙ hashed.right full))
+          (λ right. wrong (sym (take_at (t ++ q4) left 32 full) ∙ right)))
 
-      pub body_step : IsBody h (r ++ q1) (d ++ q2) (e ++ q3) (t ++ q4) after
-      body_step = record {
-        whole = body.whole;
-        in_order = body.in_order;
-        filled = filled;
-        no_spare_bit = no_spare;
-        hashed = hashed;
-      }
+      module _ {after : LongSha256} (hashed : IsHashed message (t ++ q4) after) where
+        pub more_step : 0 < length left → LastingFault whole Trailing
+        more_step some =
+            let full = left_over body.filled cuts some in
+            let decode = filled.decode_first (omega arith) in
+            rw (whole_more body.filled cuts h, append_assoc)
+            (more_fault h (r ++ q1) (d ++ q2) (e ++ q3) (t ++ q4 ++ left)
+            (record { header = body.whole; rows = filled.rows_first (omega arith); decode = decode })
+            (filled.entries_first (omega arith)) body.in_order (no_spare decode)
+            (omega (arith, length-append (t ++ q4) left))
+            (take_at (t ++ q4) left 32 full ∙ hashed.right full))
+
+        pub body_step : IsBody h (r ++ q1) (d ++ q2) (e ++ q3) (t ++ q4) after
+        body_step = record {
+          whole = body.whole;
+          in_order = body.in_order;
+          filled = filled;
+          no_spare_bit = no_spare;
+          hashed = hashed;
+        }

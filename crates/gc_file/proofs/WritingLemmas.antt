@@ -1,6 +1,5 @@
 -- Files on their way to a sink.
-use Rattle.gc_file.proofs.WriterNames.{◌≡◌, refl, ℕ, ◌+◌, ◌<◌, List, ◌++◌, length, take, drop, length-append, length-take, length-drop, append_assoc, Option, Result, Ok, Err, ◌∙◌, arith, Appends-trans, take-append-drop, err_from_is_err_and, Appends, IsErrAnd, FileWriter, WriteFault, IsStopped, IsAfter, Proceeds}
-use Rattle.gc_file.specs.Counted.{saturated_count}
+use Rattle.gc_file.proofs.Names.{◌≡◌, refl, ℕ, ◌+◌, ◌<◌, List, ◌++◌, length, take, drop, length-append, length-take, length-drop, append_assoc, Option, Result, Ok, Err, ◌∙◌, arith, Appends-trans, take-append-drop, err_from_is_err_and, Appends, IsErrAnd, FileWriter, WriteFault, IsStopped, IsAfter, Proceeds, saturated_count}
 use Rattle.gc_file.specs.declared.sink.Sink.{Ghosts}
 
 -- A sink that stopped in a file stopped in each longer one.

@@ -1,6 +1,4 @@
-use Rattle.gc_file.proofs.ReaderNames.{◌≡◌, ◌++◌, List, ℕ, IsHashed}
-use Rattle.std.proofs.lemmas.Result.{IfErr-weaker, on_ok_weaker}
-use Rattle.gc_file.proofs.StepLemmas.{hashed_more}
+use Rattle.gc_file.proofs.ReaderNames.{◌≡◌, ◌++◌, List, ℕ, IsHashed, IfErr-weaker, on_ok_weaker, hashed_more}
 use Rattle.gc_file.proofs.body.add_hashed.Goals.{After-update-in_default-2}
 use Rattle.gc_file.proofs.body.add_hashed.Goals as goal
 

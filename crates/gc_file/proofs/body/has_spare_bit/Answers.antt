@@ -1,5 +1,4 @@
-use Rattle.gc_file.proofs.ReaderNames.{◌-◌, ◌%◌, ◌^◌, ◌<◌, length, slice_index, arith, nat_tests}
-use Rattle.std.proofs.Math.Nat.{div-eq_of_lt, div-add-mod', mod-lt, one-le-pow}
+use Rattle.gc_file.proofs.ReaderNames.{◌-◌, ◌%◌, ◌^◌, ◌<◌, length, slice_index, arith, nat_tests, div-eq_of_lt, div-add-mod', mod-lt, one-le-pow}
 use Rattle.gc_file.proofs.body.has_spare_bit.Goals as goal
 
 pub returns-then-outputs-ne0 : goal.returns-then-outputs-ne0

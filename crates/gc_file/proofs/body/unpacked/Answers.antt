@@ -1,5 +1,4 @@
-use Rattle.gc_file.proofs.ReaderNames.{◌/◌, ◌%◌, slice_index, refl, arith, map-range_with_len_more, bit_in}
-use Rattle.std.proofs.lemmas.Nat.Bits.{shr_and_one}
+use Rattle.gc_file.proofs.ReaderNames.{◌/◌, ◌%◌, slice_index, refl, arith, map-range_with_len_more, bit_in, shr_and_one}
 use Rattle.gc_file.proofs.body.unpacked.Goals as goal
 
 pub loop-i-preserved : goal.loop-i-preserved

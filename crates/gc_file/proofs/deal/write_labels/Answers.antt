@@ -1,7 +1,4 @@
-use Rattle.gc_file.proofs.WriterNames.{◌≡◌, ◌<◌, ◌^◌, ◌++◌, [], length, append-nil, refl, ◌∙◌, arith, label_file, label_parts_of}
-use Rattle.gc_file.proofs.DealLemmas.{label_bytes, label_file-is, length-label_file, first_wire-room}
-use Rattle.gc_file.proofs.WritingLemmas.{Proceeds-step}
-use Rattle.gc_file.proofs.EndLemmas.{Ends-exit, Ends-step, IsWritten-whole}
+use Rattle.gc_file.proofs.WriterNames.{◌≡◌, ◌<◌, ◌^◌, ◌++◌, [], length, append-nil, refl, ◌∙◌, arith, label_file, label_parts_of, label_bytes, label_file-is, length-label_file, first_wire-room, Proceeds-step, Ends-exit, Ends-step, IsWritten-whole}
 use Rattle.gc_file.proofs.deal.write_labels.Given.{Over}
 use Rattle.gc_file.proofs.deal.write_labels.Goals.{After-as_slice}
 use Rattle.gc_file.proofs.deal.write_labels.Goals as goal

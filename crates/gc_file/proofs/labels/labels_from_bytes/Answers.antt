@@ -1,5 +1,4 @@
-use Rattle.gc_file.proofs.ReaderNames.{◌+◌, ◌*◌, arith}
-use Rattle.gc_file.proofs.PairLemmas.{AreRead-more}
+use Rattle.gc_file.proofs.ReaderNames.{◌+◌, ◌*◌, arith, AreRead-more}
 use Rattle.gc_file.proofs.labels.labels_from_bytes.Goals as goal
 
 pub loop-i-preserved : goal.loop-i-preserved

@@ -1,5 +1,4 @@
-use Rattle.gc_file.proofs.ReaderNames.{◌*◌, [], bytes_of_label, IsLabel}
-use Rattle.gc_file.proofs.PairLemmas.{AreRead}
+use Rattle.gc_file.proofs.ReaderNames.{◌*◌, [], bytes_of_label, IsLabel, AreRead}
 use Rattle.gc_file.proofs.labels.labels_from_bytes.Given as goal
 
 abbrev pub invariant-loop-i : goal.invariant-loop-i

@@ -1,5 +1,4 @@
-use Rattle.std.proofs.Common.{◌∙◌, arith}
-use Rattle.std.proofs.lemmas.List.{take_rest}
+use Rattle.gc_file.proofs.ReaderNames.{◌∙◌, arith, take_rest}
 use Rattle.gc_file.proofs.FormLemmas.{label_file_is}
 use Rattle.gc_file.proofs.labels.read_labels.Goals as goal
 

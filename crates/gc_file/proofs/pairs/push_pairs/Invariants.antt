@@ -1,6 +1,4 @@
-use Rattle.gc_file.proofs.ReaderNames.{◌*◌, flat_map}
-use Rattle.gc_file.specs.LabelBytes.{bytes_by, IsLabelPair}
-use Rattle.gc_file.proofs.PairLemmas.{AreRead}
+use Rattle.gc_file.proofs.ReaderNames.{◌*◌, flat_map, bytes_by, IsLabelPair, AreRead}
 use Rattle.gc_file.proofs.pairs.push_pairs.Given as goal
 
 abbrev pub invariant-loop-i : goal.invariant-loop-i

@@ -1,6 +1,4 @@
-use Rattle.gc_file.proofs.ReaderNames.{◌+◌, ◌*◌, arith}
-use Rattle.std.proofs.lemmas.List.{take_more_set}
-use Rattle.gc_file.proofs.PairLemmas.{AreRead-more}
+use Rattle.gc_file.proofs.ReaderNames.{◌+◌, ◌*◌, arith, take_more_set, AreRead-more}
 use Rattle.gc_file.proofs.pairs.read_rows.Goals as goal
 
 pub loop-i-preserved : goal.loop-i-preserved

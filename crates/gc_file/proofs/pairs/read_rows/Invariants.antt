@@ -1,6 +1,4 @@
-use Rattle.gc_file.proofs.ReaderNames.{◌*◌, [], take, row_bytes}
-use Rattle.gc_file.specs.GarbledFile.{IsRowPair}
-use Rattle.gc_file.proofs.PairLemmas.{AreRead}
+use Rattle.gc_file.proofs.ReaderNames.{◌*◌, [], take, row_bytes, IsRowPair, AreRead}
 use Rattle.gc_file.proofs.pairs.read_rows.Given as goal
 
 abbrev pub invariant-loop-i : goal.invariant-loop-i

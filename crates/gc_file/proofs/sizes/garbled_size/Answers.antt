@@ -1,7 +1,4 @@
-use Rattle.std.proofs.Common.{◌≡◌, ◌/◌, ◌%◌, ap, ◌∙◌, arith}
-use Rattle.gc_netlist.specs.Circuit.{output_wires}
-use Rattle.gc_file.specs.GarbledFile.{entry_count}
-use Rattle.gc_file.proofs.SizeLemmas.{length-honest}
+use Rattle.gc_file.proofs.WriterNames.{◌≡◌, ◌/◌, ◌%◌, ap, ◌∙◌, arith, output_wires, entry_count, length-honest}
 use Rattle.gc_file.proofs.sizes.garbled_size.Goals as goal
 
 pub returns : goal.returns

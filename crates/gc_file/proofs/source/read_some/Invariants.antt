@@ -1,4 +1,4 @@
-use Rattle.std.specs.Io.KnownBytes.{Keeps}
+use Rattle.gc_file.proofs.ReaderNames.{Keeps}
 use Rattle.gc_file.proofs.source.read_some.Given as goal
 
 abbrev pub invariant-loop : goal.invariant-loop

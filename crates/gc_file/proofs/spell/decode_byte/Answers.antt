@@ -1,5 +1,4 @@
-use Rattle.gc_file.proofs.WriterNames.{◌≡◌, suc, ◌<◌, ◌-◌, ◌*◌, length-take, length-drop, take, drop, ap, sym, arith, drop_all, decode_bits_of, bits_number}
-use Rattle.gc_file.proofs.ByteLemmas.{bool_byte-le, ord_min-nat, bits_number-later, bits_number-last, length-decode_bits}
+use Rattle.gc_file.proofs.WriterNames.{◌≡◌, suc, ◌<◌, ◌-◌, ◌*◌, length-take, length-drop, take, drop, ap, sym, arith, drop_all, decode_bits_of, bits_number, bool_byte-le, ord_min-nat, bits_number-later, bits_number-last, length-decode_bits}
 use Rattle.gc_file.proofs.spell.decode_byte.Goals as goal
 
 pub overflow_mul-byte : goal.overflow_mul-byte

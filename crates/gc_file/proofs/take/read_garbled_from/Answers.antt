@@ -1,5 +1,4 @@
-use Rattle.std.proofs.Common.{◌∙◌, arith}
-use Rattle.gc_file.proofs.TakeLemmas.{taking_more, taken_fault, taken_all}
+use Rattle.gc_file.proofs.ReaderNames.{◌∙◌, arith, taking_more, taken_fault, taken_all}
 use Rattle.gc_file.proofs.take.read_garbled_from.Goals as goal
 
 pub returns-in-Err-feed-clause-all : goal.returns-in-Err-feed-clause-all

@@ -1,5 +1,4 @@
-use Rattle.gc_file.proofs.ReaderNames.{◌≡◌, ◌-◌, IsTaking}
-use Rattle.gc_file.proofs.TakeLemmas.{most_bytes, fed_length}
+use Rattle.gc_file.proofs.ReaderNames.{◌≡◌, ◌-◌, IsTaking, most_bytes, fed_length}
 use Rattle.gc_file.proofs.take.read_garbled_from.Given as goal
 
 abbrev pub invariant-loop-reader : goal.invariant-loop-reader

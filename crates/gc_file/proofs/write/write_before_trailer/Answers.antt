@@ -1,7 +1,4 @@
-use Rattle.gc_file.proofs.WriterNames.{[], append-nil, body}
-use Rattle.gc_file.specs.Honest.{honest_parts_with}
-use Rattle.gc_file.proofs.SizeLemmas.{body-size}
-use Rattle.gc_file.proofs.EndLemmas.{Ends-exit, Ends-step, IsWritten-whole}
+use Rattle.gc_file.proofs.WriterNames.{[], append-nil, body, honest_parts_with, body-size, Ends-exit, Ends-step, IsWritten-whole}
 use Rattle.gc_file.proofs.write.write_before_trailer.Goals as goal
 
 pub returns-in_err-write_body-clause-body : goal.returns-in_err-write_body-clause-body

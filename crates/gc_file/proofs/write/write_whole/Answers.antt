@@ -1,7 +1,4 @@
-use Rattle.gc_file.proofs.WriterNames.{refl, sha256, body, garbled_file}
-use Rattle.gc_file.specs.Honest.{honest_parts_with}
-use Rattle.gc_file.proofs.SizeLemmas.{garbled_file-size, few-version_entries}
-use Rattle.gc_file.proofs.EndLemmas.{Ends-exit, Ends-step, IsWritten-whole}
+use Rattle.gc_file.proofs.WriterNames.{refl, sha256, body, garbled_file, honest_parts_with, garbled_file-size, few-version_entries, Ends-exit, Ends-step, IsWritten-whole}
 use Rattle.gc_file.proofs.write.write_whole.Goals as goal
 
 pub returns-in_err-write_body-clause-file : goal.returns-in_err-write_body-clause-file

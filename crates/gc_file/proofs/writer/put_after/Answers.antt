@@ -1,4 +1,4 @@
-use Rattle.gc_file.proofs.WritingLemmas.{IsAfter-stopped}
+use Rattle.gc_file.proofs.WriterNames.{IsAfter-stopped}
 use Rattle.gc_file.proofs.writer.put_after.Goals as goal
 
 pub returns-in-Err-clause-bytes : goal.returns-in-Err-clause-bytes

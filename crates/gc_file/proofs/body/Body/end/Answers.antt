@@ -1,5 +1,4 @@
-use Rattle.gc_file.proofs.ReaderNames.{◌≡◌, ◌<◌, length, arith, nat_tests, truncated, GarbledParts, version_of_bytes}
-use Rattle.gc_file.proofs.PlaceLemmas.{in_order, ends_early}
+use Rattle.gc_file.proofs.ReaderNames.{◌≡◌, ◌<◌, length, arith, nat_tests, truncated, GarbledParts, version_of_bytes, in_order, ends_early}
 use Rattle.gc_file.proofs.FileLemmas.{file_is}
 use Rattle.gc_file.proofs.body.Body.end.Goals as goal
 

@@ -1,5 +1,4 @@
-use Rattle.std.proofs.Common.{[]}
-use Rattle.gc_file.proofs.StepLemmas.{body_new}
+use Rattle.gc_file.proofs.ReaderNames.{[], body_new}
 use Rattle.gc_file.proofs.body.Body.new.Goals as goal
 
 pub invariant_of-result : goal.invariant_of-result

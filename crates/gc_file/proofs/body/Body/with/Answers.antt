@@ -1,6 +1,4 @@
-use Rattle.gc_file.proofs.ReaderNames.{rules, ◌≡◌, ◌-◌, ◌<◌, ◌++◌, length, arith, err_from_is_err_and, nat_tests, output_count, IsSpare, version_of_bytes, row_size, decode_size, entry_size, IsCutUp, IsGiven}
-use Rattle.gc_file.proofs.PlaceLemmas.{in_order}
-use Rattle.gc_file.proofs.StepLemmas.{spare_step, bad_trailer_step, more_step, body_step, view_step, message_step, given_step}
+use Rattle.gc_file.proofs.ReaderNames.{rules, ◌≡◌, ◌-◌, ◌<◌, ◌++◌, length, arith, err_from_is_err_and, nat_tests, output_count, IsSpare, version_of_bytes, row_size, decode_size, entry_size, IsCutUp, IsGiven, in_order, spare_step, bad_trailer_step, more_step, body_step, view_step, message_step, given_step}
 use Rattle.gc_file.proofs.body.Body.with.Given.{Over}
 use Rattle.gc_file.proofs.body.Body.with.Goals.{After-cut_up-cuts, In_ok-add_decode_bytes}
 use Rattle.gc_file.proofs.body.Body.with.Goals as goal

@@ -1,7 +1,4 @@
-use Rattle.gc_file.proofs.WriterNames.{◌+◌, length, arith, take_all}
-use Rattle.gc_file.proofs.ByteLemmas.{ord_min-nat}
-use Rattle.gc_file.proofs.DealLemmas.{label_bytes-next, label_bytes-rest}
-use Rattle.gc_file.proofs.WritingLemmas.{Wrote-more, Wrote-exit}
+use Rattle.gc_file.proofs.WriterNames.{◌+◌, length, arith, take_all, ord_min-nat, label_bytes-next, label_bytes-rest, Wrote-more, Wrote-exit}
 use Rattle.gc_file.proofs.deal.FileWriter+Unobserved.write_labels.Goals as goal
 
 pub returns-in_err-write_some_labels-clause-bytes

@@ -1,6 +1,4 @@
-use Rattle.gc_file.proofs.WriterNames.{◌≤◌, ◌-◌, length, take, Unseen}
-use Rattle.gc_file.proofs.WritingLemmas.{Wrote}
-use Rattle.gc_file.proofs.DealLemmas.{label_bytes}
+use Rattle.gc_file.proofs.WriterNames.{◌≤◌, ◌-◌, length, take, Unseen, Wrote, label_bytes}
 use Rattle.gc_file.proofs.deal.FileWriter+Unobserved.write_labels.Given as goal
 
 abbrev pub invariant-loop-done : goal.invariant-loop-done

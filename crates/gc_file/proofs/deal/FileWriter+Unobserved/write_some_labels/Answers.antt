@@ -1,6 +1,4 @@
-use Rattle.gc_file.proofs.WriterNames.{◌≡◌, ◌+◌, ◌∷◌, [], ◌++◌, take, get_or, false, append-nil, refl, sym, arith, take_all, take_more, length-take-le, get_or-map-range_with_len, input_label_of}
-use Rattle.gc_file.proofs.DealLemmas.{label_bytes, label_bytes-append, label_bytes-rest}
-use Rattle.gc_file.proofs.WritingLemmas.{Wrote-more, Wrote-exit}
+use Rattle.gc_file.proofs.WriterNames.{◌≡◌, ◌+◌, ◌∷◌, [], ◌++◌, take, get_or, false, append-nil, refl, sym, arith, take_all, take_more, length-take-le, get_or-map-range_with_len, input_label_of, label_bytes, label_bytes-append, label_bytes-rest, Wrote-more, Wrote-exit}
 use Rattle.gc_file.proofs.deal.FileWriter+Unobserved.write_some_labels.Given.{Over}
 use Rattle.gc_file.proofs.deal.FileWriter+Unobserved.write_some_labels.Goals.{After-to_bytes}
 use Rattle.gc_file.proofs.deal.FileWriter+Unobserved.write_some_labels.Goals as goal

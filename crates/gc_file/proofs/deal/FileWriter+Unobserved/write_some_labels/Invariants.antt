@@ -1,6 +1,4 @@
-use Rattle.gc_file.proofs.WriterNames.{take, Unseen}
-use Rattle.gc_file.proofs.WritingLemmas.{Wrote}
-use Rattle.gc_file.proofs.DealLemmas.{label_bytes}
+use Rattle.gc_file.proofs.WriterNames.{take, Unseen, Wrote, label_bytes}
 use Rattle.gc_file.proofs.deal.FileWriter+Unobserved.write_some_labels.Given as goal
 
 abbrev pub invariant-loop-i : goal.invariant-loop-i

@@ -1,4 +1,4 @@
-use Rattle.gc_file.proofs.PairLemmas.{whole_pairs}
+use Rattle.gc_file.proofs.ReaderNames.{whole_pairs}
 use Rattle.gc_file.proofs.pairs.Pairs.into_pairs.Goals as goal
 
 pub returns-clause-bytes : goal.returns-clause-bytes

@@ -1,5 +1,4 @@
-use Rattle.std.proofs.Common.{ap, length, arith}
-use Rattle.gc_file.proofs.PairLemmas.{length-view}
+use Rattle.gc_file.proofs.ReaderNames.{ap, length, arith, length-view}
 use Rattle.gc_file.proofs.pairs.Pairs.len.Goals as goal
 
 pub returns : goal.returns

@@ -1,5 +1,4 @@
-use Rattle.gc_file.proofs.ReaderNames.{arith, truncated}
-use Rattle.gc_file.proofs.HeaderLemmas.{header_in_order}
+use Rattle.gc_file.proofs.ReaderNames.{arith, truncated, header_in_order}
 use Rattle.gc_file.proofs.reader.GarbledReader.end.Goals as goal
 
 pub returns-in-Header : goal.returns-in-Header

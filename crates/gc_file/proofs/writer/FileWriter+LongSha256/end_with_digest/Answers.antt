@@ -1,5 +1,4 @@
-use Rattle.gc_file.proofs.WriterNames.{sha256}
-use Rattle.gc_file.proofs.EndLemmas.{Ends-exit, Ends-digest}
+use Rattle.gc_file.proofs.WriterNames.{sha256, Ends-exit, Ends-digest}
 use Rattle.gc_file.proofs.writer.FileWriter+LongSha256.end_with_digest.Goals as goal
 
 pub returns-in_err-send-clause-bytes : goal.returns-in_err-send-clause-bytes

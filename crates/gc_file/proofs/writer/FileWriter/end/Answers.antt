@@ -1,4 +1,4 @@
-use Rattle.gc_file.proofs.EndLemmas.{Ends-sent}
+use Rattle.gc_file.proofs.WriterNames.{Ends-sent}
 use Rattle.gc_file.proofs.writer.FileWriter.end.Goals as goal
 
 pub returns-clause-bytes : goal.returns-clause-bytes

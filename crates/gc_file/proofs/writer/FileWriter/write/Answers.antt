@@ -1,5 +1,4 @@
-use Rattle.std.proofs.Common.{refl}
-use Rattle.gc_file.proofs.WritingLemmas.{Proceeds-exit}
+use Rattle.gc_file.proofs.WriterNames.{refl, Proceeds-exit}
 use Rattle.gc_file.proofs.writer.FileWriter.write.Goals as goal
 
 pub returns-in_err-send-clause-bytes : goal.returns-in_err-send-clause-bytes

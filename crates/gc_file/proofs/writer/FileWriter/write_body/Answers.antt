@@ -1,6 +1,4 @@
-use Rattle.gc_file.proofs.WriterNames.{flat_map, refl, entry_bytes}
-use Rattle.gc_file.specs.Honest.{version_entries}
-use Rattle.gc_file.proofs.WritingLemmas.{Proceeds-step, Proceeds-exit}
+use Rattle.gc_file.proofs.WriterNames.{flat_map, refl, entry_bytes, version_entries, Proceeds-step, Proceeds-exit}
 use Rattle.gc_file.proofs.writer.FileWriter.write_body.Goals as goal
 
 pub returns-in_err-write_front-clause-bytes : goal.returns-in_err-write_front-clause-bytes

@@ -1,7 +1,5 @@
-use Rattle.gc_file.proofs.WriterNames.{◌≡◌, ◌<◌, ◌+◌, ◌++◌, ◌∷◌, [], length, take, refl, arith, take_more, take_all, take-append-drop, decode_bits_of, packed, length-packed}
-use Rattle.gc_file.proofs.ByteLemmas.{length-decode_bits}
-use Rattle.gc_file.proofs.PackLemmas.{packed-at}
-use Rattle.gc_file.proofs.WritingLemmas.{Wrote-more, Wrote-exit}
+use Rattle.gc_file.proofs.WriterNames.{◌≡◌, ◌<◌, ◌+◌, ◌++◌, ◌∷◌, [], length, take, refl, arith, take_more, take_all, take-append-drop, decode_bits_of, packed, length-decode_bits, Wrote-more, Wrote-exit}
+use Rattle.gc_file.proofs.PackLemmas.{length-packed, packed-at}
 use Rattle.gc_file.proofs.writer.FileWriter.write_decode_bits.Given.{Over}
 use Rattle.gc_file.proofs.writer.FileWriter.write_decode_bits.Goals.{After-decode_byte}
 use Rattle.gc_file.proofs.writer.FileWriter.write_decode_bits.Goals as goal

@@ -1,5 +1,4 @@
-use Rattle.gc_file.proofs.WriterNames.{take, decode_bits_of, packed}
-use Rattle.gc_file.proofs.WritingLemmas.{Wrote}
+use Rattle.gc_file.proofs.WriterNames.{take, decode_bits_of, packed, Wrote}
 use Rattle.gc_file.proofs.writer.FileWriter.write_decode_bits.Given as goal
 
 abbrev pub invariant-loop-k : goal.invariant-loop-k

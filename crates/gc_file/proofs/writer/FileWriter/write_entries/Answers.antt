@@ -1,6 +1,4 @@
-use Rattle.std.proofs.Common.{◌-◌, ◌*◌, ◌/◌, refl, arith}
-use Rattle.gc_file.proofs.ByteLemmas.{entries-more}
-use Rattle.gc_file.proofs.WritingLemmas.{Proceeds-step, Proceeds-exit}
+use Rattle.gc_file.proofs.WriterNames.{◌-◌, ◌*◌, ◌/◌, refl, arith, entries-more, Proceeds-step, Proceeds-exit}
 use Rattle.gc_file.proofs.writer.FileWriter.write_entries.Goals as goal
 
 pub returns-in_err-write_fours-clause-bytes : goal.returns-in_err-write_fours-clause-bytes

@@ -1,6 +1,4 @@
-use Rattle.std.proofs.Common.{◌≡◌, ◌+◌, ◌-◌, ◌*◌, refl, arith}
-use Rattle.gc_file.proofs.ByteLemmas.{entries-more}
-use Rattle.gc_file.proofs.WritingLemmas.{Wrote-more, Wrote-exit}
+use Rattle.gc_file.proofs.WriterNames.{◌≡◌, ◌+◌, ◌-◌, ◌*◌, refl, arith, entries-more, Wrote-more, Wrote-exit}
 use Rattle.gc_file.proofs.writer.FileWriter.write_fours.Goals as goal
 
 pub returns-in_err-write_pairs-clause-bytes : goal.returns-in_err-write_pairs-clause-bytes

@@ -1,6 +1,4 @@
-use Rattle.gc_file.proofs.WriterNames.{◌≡◌, [], flat_map, append_assoc, refl, sym, packed, header, row_bytes, parts_of}
-use Rattle.gc_file.proofs.ByteLemmas.{length-decode_bits}
-use Rattle.gc_file.proofs.WritingLemmas.{Proceeds-step, Proceeds-exit}
+use Rattle.gc_file.proofs.WriterNames.{◌≡◌, [], flat_map, append_assoc, refl, sym, packed, header, row_bytes, parts_of, length-decode_bits, Proceeds-step, Proceeds-exit}
 use Rattle.gc_file.proofs.writer.FileWriter.write_front.Given.{Over}
 use Rattle.gc_file.proofs.writer.FileWriter.write_front.Goals.{After-as_slice}
 use Rattle.gc_file.proofs.writer.FileWriter.write_front.Goals as goal

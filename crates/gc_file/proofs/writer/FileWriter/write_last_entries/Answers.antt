@@ -1,6 +1,4 @@
-use Rattle.std.proofs.Common.{◌≡◌, ◌+◌, ◌-◌, refl, arith}
-use Rattle.gc_file.proofs.ByteLemmas.{entries-one, entries-more}
-use Rattle.gc_file.proofs.WritingLemmas.{Wrote-more, Wrote-exit}
+use Rattle.gc_file.proofs.WriterNames.{◌≡◌, ◌+◌, ◌-◌, refl, arith, entries-one, entries-more, Wrote-more, Wrote-exit}
 use Rattle.gc_file.proofs.writer.FileWriter.write_last_entries.Goals as goal
 
 pub returns-in_err-write-clause-bytes : goal.returns-in_err-write-clause-bytes

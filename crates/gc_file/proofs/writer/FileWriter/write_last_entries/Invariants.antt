@@ -1,5 +1,4 @@
-use Rattle.gc_file.proofs.WriterNames.{◌-◌, flat_map, entry_bytes, entry_pairs_from}
-use Rattle.gc_file.proofs.WritingLemmas.{Wrote}
+use Rattle.gc_file.proofs.WriterNames.{◌-◌, flat_map, entry_bytes, entry_pairs_from, Wrote}
 use Rattle.gc_file.proofs.writer.FileWriter.write_last_entries.Given as goal
 
 abbrev pub invariant-loop-i : goal.invariant-loop-i

@@ -1,5 +1,4 @@
-use Rattle.gc_file.proofs.WriterNames.{flat_map, take, entry_bytes}
-use Rattle.gc_file.proofs.WritingLemmas.{Wrote}
+use Rattle.gc_file.proofs.WriterNames.{flat_map, take, entry_bytes, Wrote}
 use Rattle.gc_file.proofs.writer.FileWriter.write_pairs.Given as goal
 
 abbrev pub invariant-loop-pair : goal.invariant-loop-pair

@@ -1,6 +1,4 @@
-use Rattle.gc_file.specs.GarbledFile.{row_bytes}
-use Rattle.gc_file.proofs.ListLemmas.{flat_map-step, flat_map-rest}
-use Rattle.gc_file.proofs.WritingLemmas.{Wrote-more, Wrote-exit}
+use Rattle.gc_file.proofs.WriterNames.{row_bytes, flat_map-step, flat_map-rest, Wrote-more, Wrote-exit}
 use Rattle.gc_file.proofs.writer.FileWriter.write_rows.Goals as goal
 
 pub returns-in_err-write-clause-bytes : goal.returns-in_err-write-clause-bytes

@@ -1,5 +1,4 @@
-use Rattle.gc_file.proofs.WriterNames.{flat_map, take, row_bytes}
-use Rattle.gc_file.proofs.WritingLemmas.{Wrote}
+use Rattle.gc_file.proofs.WriterNames.{flat_map, take, row_bytes, Wrote}
 use Rattle.gc_file.proofs.writer.FileWriter.write_rows.Given as goal
 
 abbrev pub invariant-loop-row : goal.invariant-loop-row
