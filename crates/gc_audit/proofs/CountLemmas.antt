@@ -13,10 +13,4 @@ pub count_more : (p : Gate → Bool) (gates : List Gate) (i : ℕ) (g : Gate) (n
 count_more p gates i g n m at before more =
     let within = slice_get_within gates i g at in
     let same = ap p (get_or_from_slice_get gates i g g at) in
-    elim (cases_Bool (p g)) [
-      | inl passes ↦ more ∙ ap (λ b. n + one_if b) passes ∙ ap (λ k. k + 1) before
-          ∙ sym (count_by_more_yes p gates i g within (same ∙ passes))
-      | inr fails ↦ more ∙ ap (λ b. n + one_if b) fails ∙ (let e : n + 0 ≡ n = omega arith in e)
-          ∙ before
-          ∙ sym (count_by_more_no p gates i g within (same ∙ fails))
-    ]
+    grind (arith, cases_Bool (p g), count_by_more_yes p gates i g, count_by_more_no p gates i g)

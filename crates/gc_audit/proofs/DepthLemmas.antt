@@ -1,7 +1,7 @@
 -- Depths of wires, gate after gate.
 use Rattle.std.proofs.Common.{◌≡◌, ◌≢◌, ℕ, zero, suc, ◌+◌, ◌<◌, ◌≤◌, ◌⊎◌, inl, inr, max, List, length, map, set, replicate, get_or, slice_get, Some, refl, sym, ap, subst, ◌∙◌, arith}
 use Rattle.std.proofs.lemmas.Bool.{cases_eq, cases_lt}
-use Rattle.std.proofs.lemmas.List.{get_or-set_same, get_or-set_other, length-replicate}
+use Rattle.std.proofs.lemmas.List.{get_or-set_same, get_or-set_other, length-replicate, get_or-replicate, get_or_past}
 use Rattle.std.proofs.lemmas.List.FromFn.{fill_by_all}
 use Rattle.std.specs.List.{range_with_len}
 use Rattle.gc_netlist.specs.declared.gate.Operation.{Operation}
@@ -18,11 +18,7 @@ use Rattle.gc_audit.specs.Depths.{none_deep, depths_in, depths_of, depths_rule}
 
 depths_of_local : (u v : ℕ → Depths) (op : Operation) → EachRead (λ w. u w ≡ v w) op
     → depths_of u op ≡ depths_of v op
-depths_of_local u v (Xor a b) h = rw (h.0, h.1)
-depths_of_local u v (And a b) h = rw (h.0, h.1)
-depths_of_local u v (Inv a) h = rw h
-depths_of_local u v (Eqw a) h = rw h
-depths_of_local u v (Eq b) h = refl
+depths_of_local u v op h = grind arith
 
 pub depths_local : IsLocal depths_rule
 depths_local u v i g h = depths_of_local u v g.operation h
@@ -30,11 +26,7 @@ depths_local u v i g h = depths_of_local u v g.operation h
 -- A gate adds one at most.
 pub depth_of-le : (depth : ℕ → ℕ) (op : Operation) (n : ℕ) → ((w : ℕ) → depth w ≤ n)
     → (depth_of depth op ≤ n + 1) × (and_depth_of depth op ≤ n + 1)
-depth_of-le depth (Xor a b) n h = (omega (arith, h a, h b), omega (arith, h a, h b))
-depth_of-le depth (And a b) n h = (omega (arith, h a, h b), omega (arith, h a, h b))
-depth_of-le depth (Inv a) n h = (omega (arith, h a), omega (arith, h a))
-depth_of-le depth (Eqw a) n h = (omega (arith, h a), omega (arith, h a))
-depth_of-le depth (Eq b) n h = (omega arith, omega arith)
+depth_of-le depth op n h = grind arith
 
 -- The number is the greatest in the table of those of wires that the first i gates set, and at most i.
 pub record IsDeepest (c : Netlist) (i : ℕ) (table : List Depths)
@@ -44,9 +36,7 @@ pub record IsDeepest (c : Netlist) (i : ℕ) (table : List Depths)
   pub reached : (n ≡ 0) ⊎ ((w : ℕ) × IsSetBefore c i w × (f (depths_in table w) ≡ n))
 
 past : (k w : ℕ) → get_or (replicate k none_deep) w none_deep ≡ none_deep
-past zero w = refl
-past (suc k) zero = refl
-past (suc k) (suc w) = past k w
+past k w = grind (arith, get_or-replicate, get_or_past, length-replicate, cases_lt w k)
 
 -- the start: no wire is deep
 pub table_start : (c : Netlist) (n : ℕ) (table : List Depths) → n ≡ c.wires
@@ -76,10 +66,7 @@ module _ (c : Netlist) (lawful : IsLawful c) (i : ℕ) (g : Gate) (at : slice_ge
 
   most_more : (n m : ℕ) → IsDeepest c i table f n → m ≡ max n (f d) → (w : ℕ) →
       f (depths_in (set table g.set d) w) ≤ m
-  most_more n m h is w = elim (cases_eq w g.set) [
-    | inl same ↦ omega (arith, ap (λ k. f (depths_in (set table g.set d) k)) same, at_set, is)
-    | inr other ↦ omega (arith, at_other w other, h.most w, is)
-  ]
+  most_more n m h is w = grind (arith, cases_eq w g.set, at_set, at_other w, h.most w)
 
   reached_before : (n m : ℕ) → (n ≡ 0) ⊎ ((w : ℕ) × IsSetBefore c i w × (f (depths_in table w) ≡ n))
       → m ≡ n →

@@ -7,7 +7,7 @@ module _ {X : Type 0} (xs ys : List X) where
       → slice_get ys k ≡ Some y → x ≢ y → DifferFirstAt xs ys k
   differ_first k x y before at_x at_y differ = record {
     before = before;
-    there = λ same. differ (cc (at_x, at_y, same));
+    there = λ same. differ cc;
   }
 
   -- Where their elements are the same, they are the same up to the next place,

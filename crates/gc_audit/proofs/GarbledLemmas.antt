@@ -32,8 +32,8 @@ named_at offset g first i made none is below =
 
 -- Pairs of which one colour's entries differ are different.
 DifferFirstIn-differ : (p q : EntryPair) (s : Bool) → DifferFirstIn p q s → p ≢ q
-DifferFirstIn-differ p q false differ = λ same. differ (ap (λ (e : EntryPair). e.entry_zero) same)
-DifferFirstIn-differ p q true differ = λ same. differ.1 (ap (λ (e : EntryPair). e.entry_one) same)
+DifferFirstIn-differ p q false differ = λ same. differ cc
+DifferFirstIn-differ p q true differ = λ same. differ.1 cc
 
 -- The first entry that differs, from the pairs of its output.
 pub entry_difference : (entries pairs : List EntryPair) (i : ℕ) (p q : EntryPair) (s : Bool)
@@ -62,20 +62,16 @@ module _ (c : Netlist) (g : GarblingParts) (offset : ℕ) (file : GarbledParts) 
   honest-counts lawful fits is =
       let bits : length (decode_bits_of g) ≡ g.outputs =
       length-decode_bits g (omega (arith, lawful.outputs_fit, fits.wires, fits.outputs)) in
-      let rows_same : length file.rows ≡ length g.rows =
-      ap (λ (p : GarbledParts). length p.rows) is in
-      let bits_same : length file.decode_bits ≡ length (decode_bits_of g) =
-      ap (λ (p : GarbledParts). length p.decode_bits) is in
-      record {
-        rows = rows_same ∙ fits.and_gates;
-        decode_bits = bits_same ∙ bits ∙ fits.outputs;
-        entries = ap (λ (p : GarbledParts). length p.entries) is
-            ∙ counted file.version ∙ ap (entry_count file.version) (sym (bits_same ∙ bits));
-      }
+      rw is (record {
+        rows = fits.and_gates;
+        decode_bits = bits ∙ fits.outputs;
+        entries = counted file.version;
+      })
     where
-      counted : (v : Version) → length (version_entries v offset g) ≡ entry_count v g.outputs
+      counted : (v : Version) → length (version_entries v offset g)
+          ≡ entry_count v (length (decode_bits_of g))
       counted One = refl
-      counted Two = length-entry_pairs offset g
+      counted Two = length-entry_pairs offset g ∙ sym (length-decode_bits g (omega arith))
 
   module _ (lawful : IsLawful c) (fits : FitsCircuit c g) (is : IsHonest) where
     -- In the parts of an honest file no difference is found,

@@ -15,12 +15,7 @@ encode-same offset label x y odd same =
     (sym (colour-encode offset label x odd) ∙ ap colour same ∙ colour-encode offset label y odd)
   where
     cases : (c x y : Bool) → xor x c ≡ xor y c → x ≡ y
-    cases c true true e = refl
-    cases c false false e = refl
-    cases true true false e = cc
-    cases false true false e = cc
-    cases true false true e = cc
-    cases false false true e = cc
+    cases c x y e = grind arith
 
 module _ (offset : ℕ) (zero_label : ℕ → ℕ) where
   -- So labels stand for one list of bits.
@@ -83,13 +78,13 @@ module _ (c : Netlist) (offset : ℕ)
   -- What a label stands for by the zero label of an input wire, it stands for by other labels that agree,
   pub by_labels : (label : ℕ) (bit : Bool) → label ≡ encode offset zero_label bit
       → label ≡ encode offset (labels wire) bit
-  by_labels label bit is = is ∙ ap (λ z. encode offset z bit) zero_is
+  by_labels label bit is = rw zero_is at is
 
   -- and so for none.
   pub none_by_labels : (label : ℕ) → ((bit : Bool) → label ≢ encode offset zero_label bit)
       → (bit : Bool)
       → label ≢ encode offset (labels wire) bit
-  none_by_labels label none bit is = none bit (is ∙ ap (λ z. encode offset z bit) (sym zero_is))
+  none_by_labels label none = rw zero_is at none
 
 module _ (c : Netlist) (offset : ℕ) (odd : IsTrue (colour offset))
     (zero_label : ℕ → ℕ) (file : LabelFileParts) where

@@ -40,9 +40,9 @@ pub row_read : (rows : List RowPair) (i : ℕ) (read : List RowPair) (row : RowP
     → bytes ≡ flat_map row_bytes rows → All IsRowPair rows → 32 * i + 32 ≤ length bytes
     → length read ≡ 1 → row ≡ get_or read 0 row → All IsRowPair read
     → flat_map row_bytes read ≡ take 32 (drop (32 * i) bytes) → slice_get rows i ≡ Some row
-row_read rows i [] row bytes spelled each within one at are same = absurd (omega (arith, one))
+row_read rows i [] row bytes spelled each within one at are same = absurd (omega arith)
 row_read rows i (p ∷ q ∷ more) row bytes spelled each within one at are same =
-    absurd (omega (arith, one))
+    absurd (omega arith)
 row_read rows i (p ∷ []) row bytes spelled each within one at are same =
     let long = length-pairs row_bytes length-row_bytes rows in
     let is : IsRowPair row = rw at (are 0 p (omega arith)) in
