@@ -24,17 +24,17 @@ pub bits_number-last : (bits : List Bool) (first i : ℕ) (bit : Bool)
 bits_number-last bits first i bit at low =
     let byte = take 8 (drop first bits) in
     let here = slice_get_within bits (first + i) bit at in
-    let within : i < length byte =
-    omega (arith, length-take 8 (drop first bits), length-drop first bits) in
-    let is : get_or byte i false ≡ bit =
-    rw (get_or-take 8 (drop first bits) i false low, get_or-drop)
-    (get_or_from_slice_get bits (first + i) bit false at) in
-    rw (drop-cons byte i false within, is) (cases bit (drop (suc i) byte))
+    rw (
+      drop-cons byte i false (omega (arith, length-take 8 (drop first bits), length-drop first bits)),
+      get_or-take 8 (drop first bits) i false low,
+      get_or-drop,
+      get_or_from_slice_get bits (first + i) bit false at,
+    )
+    (cases bit (drop (suc i) byte))
   where
     cases : (bit : Bool) (rest : List Bool) →
         bits_number (bit ∷ rest) ≡ bool_byte bit + 2 * bits_number rest
-    cases false rest = refl
-    cases true rest = refl
+    cases bit rest = grind arith
 
 -- There are as many decode bits as output wires.
 pub length-decode_bits : (g : GarblingParts) → g.outputs ≤ length g.zero_labels

@@ -38,20 +38,18 @@ module _ (bytes more : List ℕ) where
   header-more v has =
       grind (arith, take-append-le 8 bytes more, length-append bytes more, rows-more, outputs-more)
 
-  last-more : 48 ≤ length bytes → decode_end bytes ≤ length bytes
-      → slice_index (bytes ++ more) (decode_end (bytes ++ more) - 1)
-      ≡ slice_index bytes (decode_end bytes - 1)
-  last-more long reaches =
-      rw (decode_end-more long)
-      (get_or_append_left bytes more 0 (decode_end bytes - 1) (omega arith))
+  module _ (long : 48 ≤ length bytes) (reaches : decode_end bytes ≤ length bytes) where
+    last-more : slice_index (bytes ++ more) (decode_end (bytes ++ more) - 1)
+        ≡ slice_index bytes (decode_end bytes - 1)
+    last-more =
+        rw (decode_end-more long)
+        (get_or_append_left bytes more 0 (decode_end bytes - 1) (omega arith))
 
-  spare-more : 48 ≤ length bytes → decode_end bytes ≤ length bytes → HasSpareBit bytes
-      → HasSpareBit (bytes ++ more)
-  spare-more long reaches spare = grind (arith, outputs-more, last-more)
+    spare-more : HasSpareBit bytes → HasSpareBit (bytes ++ more)
+    spare-more spare = grind (arith, outputs-more, last-more)
 
-  spare-less : 48 ≤ length bytes → decode_end bytes ≤ length bytes → HasSpareBit (bytes ++ more)
-      → HasSpareBit bytes
-  spare-less long reaches spare = grind (arith, outputs-more, last-more)
+    spare-less : HasSpareBit (bytes ++ more) → HasSpareBit bytes
+    spare-less spare = grind (arith, outputs-more, last-more)
 
   decode_bits-more : (v : Version) → HasDecodeBits v bytes → HasDecodeBits v (bytes ++ more)
   decode_bits-more v has =

@@ -1,6 +1,7 @@
 -- Items of one size: labels, row pairs and entry pairs, and their bytes.
 use Rattle.gc_file.proofs.Names.{◌≡◌, ℕ, zero, suc, ◌+◌, ◌*◌, ◌<◌, List, [], ◌∷◌, ◌++◌, length, take, drop, flat_map, get_or, All, refl, ◌∙◌, arith, cases_lt, take-append-drop, take_at, drop_at, get_or_past, length-drop, length-take-le, bytes_of_label, label_of_bytes, length-bytes_of_label, label_of_bytes-bytes_of_label, bytes_of_label-label_of_bytes, label_of_bytes-lt, row_bytes, entry_bytes, IsLabel, AreBytes, mul-suc, All-cons, All-take, All-drop, RowPair, EntryPair}
-use Rattle.gc_file.proofs.LabelBytesLemmas.{length-row_bytes, length-entry_bytes}
+use Rattle.gc_file.specs.LabelBytes.{bytes_by, IsLabelPair}
+use Rattle.gc_file.proofs.LabelBytesLemmas.{length-bytes_by}
 
 -- Each place of bytes has a byte, or is past their end.
 pub small : (bytes : List ℕ) → AreBytes bytes → (i : ℕ) → get_or bytes i 0 < 256
@@ -63,36 +64,37 @@ label_spelling = record {
       (bytes_of_label-label_of_bytes l len (small l are), label_of_bytes-lt l len (small l are));
 }
 
--- Two labels are read from 32 bytes.
-two_back : (a b : ℕ) → IsLabel a × IsLabel b
-    → (label_of_bytes (take 16 (bytes_of_label a ++ bytes_of_label b)) ≡ a)
-    × (label_of_bytes (drop 16 (bytes_of_label a ++ bytes_of_label b)) ≡ b)
-two_back a b are =
-    let first = bytes_of_label a in let second = bytes_of_label b in
-    let long = length-bytes_of_label a in
-    rw (take_at first second 16 long, drop_at first second 16 long)
-    (label_of_bytes-bytes_of_label a are.0, label_of_bytes-bytes_of_label b are.1)
-
-two_spelled : (l : List ℕ) → length l ≡ 32 → AreBytes l
-    → (bytes_of_label (label_of_bytes (take 16 l)) ++ bytes_of_label (label_of_bytes (drop 16 l))
-    ≡ l) × (IsLabel (label_of_bytes (take 16 l)) × IsLabel (label_of_bytes (drop 16 l)))
-two_spelled l len are =
-    let first = label_spelling.item (take 16 l) (length-take-le 16 l (omega arith))
-    (AreBytes-take 16 l are) in
-    let second = label_spelling.item (drop 16 l) (length-drop 16 l ∙ omega arith)
-    (AreBytes-drop 16 l are) in
-    (rw (first.0, second.0) (take-append-drop 16 l), (first.1, second.1))
+-- Pairs of labels of either kind are spelled by 32 bytes.
+pair_spelling : {P : Type 0} (labels : P → ℕ × ℕ) (make : ℕ → ℕ → P)
+    → ((a b : ℕ) → labels (make a b) ≡ (a, b)) → ((p : P) → make (labels p).0 (labels p).1 ≡ p)
+    → IsSpelling 32 (bytes_by labels)
+    (λ l. make (label_of_bytes (take 16 l)) (label_of_bytes (drop 16 l))) (IsLabelPair labels)
+pair_spelling labels make made again = record {
+  long = length-bytes_by labels;
+  back = λ p are.
+      let first = bytes_of_label (labels p).0 in let second = bytes_of_label (labels p).1 in
+      let long = length-bytes_of_label (labels p).0 in
+      rw (
+        take_at first second 16 long,
+        drop_at first second 16 long,
+        label_of_bytes-bytes_of_label (labels p).0 are.0,
+        label_of_bytes-bytes_of_label (labels p).1 are.1,
+      ) (again p);
+  item = λ l len are.
+      let first = label_spelling.item (take 16 l) (length-take-le 16 l (omega arith))
+      (AreBytes-take 16 l are) in
+      let second = label_spelling.item (drop 16 l) (length-drop 16 l ∙ omega arith)
+      (AreBytes-drop 16 l are) in
+      rw (made, first.0, second.0) (take-append-drop 16 l, (first.1, second.1));
+}
 
 abbrev pub row_of : List ℕ → RowPair
 row_of l = record { generator = label_of_bytes (take 16 l); evaluator = label_of_bytes (drop 16 l) }
 
 pub row_spelling : IsSpelling 32 row_bytes row_of
     (λ row. IsLabel row.generator × IsLabel row.evaluator)
-row_spelling = record {
-  long = length-row_bytes;
-  back = λ row are. let same = two_back row.generator row.evaluator are in rw (same.0, same.1) refl;
-  item = two_spelled;
-}
+row_spelling = pair_spelling (λ (row : RowPair). (row.generator, row.evaluator))
+    (λ a b. record { generator = a; evaluator = b }) (λ a b. refl) (λ row. refl)
 
 abbrev pub entry_of : List ℕ → EntryPair
 entry_of l =
@@ -100,9 +102,5 @@ entry_of l =
 
 pub entry_spelling : IsSpelling 32 entry_bytes entry_of
     (λ pair. IsLabel pair.entry_zero × IsLabel pair.entry_one)
-entry_spelling = record {
-  long = length-entry_bytes;
-  back = λ pair are.
-      let same = two_back pair.entry_zero pair.entry_one are in rw (same.0, same.1) refl;
-  item = two_spelled;
-}
+entry_spelling = pair_spelling (λ (pair : EntryPair). (pair.entry_zero, pair.entry_one))
+    (λ a b. record { entry_zero = a; entry_one = b }) (λ a b. refl) (λ pair. refl)

@@ -19,7 +19,7 @@ body_new v header hasher whole in_order holds = record {
   in_order = rw (version_of_bytes-begun v header (begins v header (omega arith) in_order.begun))
       in_order;
   filled = search (rules, arith);
-  no_spare_bit = λ full spare. let part = spare.not_full in absurd (omega arith);
+  no_spare_bit = λ full spare. absurd (omega arith);
   hashed = record { holds = λ short. simp append-nil holds; right = λ full. absurd (omega arith) };
 }
 
@@ -59,7 +59,6 @@ module _ {h r d e t : List ℕ} {hasher : LongSha256} (body : IsBody h r d e t h
   pub spare_step : length (d ++ q2) ≡ decode_size h → IsSpare (output_count h) (d ++ q2)
       → LastingFault whole SpareBits
   spare_step full spare =
-      let part = spare.not_full in
       rw (whole_more body.filled cuts h, append_assoc)
       (spare_fault h (r ++ q1) (d ++ q2) (e ++ q3) (t ++ q4 ++ left)
       (record { header = body.whole; rows = filled.rows_first (omega arith); decode = full })

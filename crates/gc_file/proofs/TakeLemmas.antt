@@ -30,36 +30,32 @@ taken_all (Some xs) None result taken bytes is = absurd taken.consumed
 taken_all (Some xs) (Some left) result taken bytes is =
     answer_of_all taken.given left bytes result (let given = taken.consumed in cc) taken.answer
 
--- What was given is what the reader holds.
-given_is : {bytes : List ℕ} {a b : Option (List ℕ)} {got : ℕ} (t : IsTaking (Ok bytes) a b got)
-    → t.given ≡ bytes
-given_is t = let fed = t.fed in cc
-
 -- A piece that was given and fed.
 pub taking_more : (reader after : Fed) (piece : List ℕ) (answer : Result (Unit {0}) FileFault)
     {a b d : Option (List ℕ)} {got more : ℕ}
     → IsTaking reader a b got → IsFed reader piece answer after
     → ((e : FileFault) → answer ≡ Err e → ⊥) → Consumes b d piece
     → more ≡ saturated_count (got + length piece) → IsTaking after a d more
-taking_more (Err e) after piece answer taking fed not_err consumed count = let is = taking.fed in cc
-taking_more (Ok bytes) after piece (Err e) taking fed not_err consumed count =
-    absurd (not_err e refl)
-taking_more (Ok bytes) after piece (Ok done) taking fed not_err consumed count = record {
-  given = bytes ++ piece;
-  fed = fed.0;
-  consumed = Consumes-trans _ _ _ bytes piece (rw (given_is taking) at taking.consumed) consumed;
-  sound = fed.1;
-  count = omega (arith, ap length (given_is taking), length-append bytes piece);
-}
+taking_more reader after piece (Err e) taking fed not_err consumed count = absurd (not_err e refl)
+taking_more reader after piece (Ok done) taking fed not_err consumed count =
+    let more = rw taking.fed at fed in
+    record {
+      given = taking.given ++ piece;
+      fed = more.0;
+      consumed = Consumes-trans _ _ _ taking.given piece taking.consumed consumed;
+      sound = more.1;
+      count = omega (arith, length-append taking.given piece);
+    }
 
 -- A piece that was given, and has a fault.
 pub taken_fault : (reader after : Fed) (piece : List ℕ) {e : FileFault}
     {a b d : Option (List ℕ)} {got : ℕ} → IsTaking reader a b got
     → IsFed reader piece (Err e) after → Consumes b d piece
     → IsTaken a d (Err (File e))
-taken_fault (Err f) after piece taking fed consumed = let is = taking.fed in cc
-taken_fault (Ok bytes) after piece taking fed consumed = record {
-  given = bytes ++ piece;
-  consumed = Consumes-trans _ _ _ bytes piece (rw (given_is taking) at taking.consumed) consumed;
-  answer = λ other. inl (fed.1 other);
-}
+taken_fault reader after piece taking fed consumed =
+    let more = rw taking.fed at fed in
+    record {
+      given = taking.given ++ piece;
+      consumed = Consumes-trans _ _ _ taking.given piece taking.consumed consumed;
+      answer = λ other. inl (more.1 other);
+    }

@@ -1,5 +1,5 @@
 -- What the writers write are files.
-use Rattle.gc_file.proofs.Names.{ℕ, List, length, sum, take, get_or, All, refl, sym, ◌∙◌, arith, range_with_len, zip, count_by-le-length, slice_get-get_or, length-sha256, Netlist, IsLawful, is_and, canonical_text, offset_of, IsLabel, entry_pair_of, decode_bits_of, ◌≤◌, MAX_GATES, MAX_WIRES, All-map}
+use Rattle.gc_file.proofs.Names.{IsRowPair, ℕ, List, length, sum, take, get_or, All, refl, sym, ◌∙◌, arith, range_with_len, zip, count_by-le-length, slice_get-get_or, length-sha256, Netlist, IsLawful, is_and, canonical_text, offset_of, IsLabel, entry_pair_of, decode_bits_of, ◌≤◌, MAX_GATES, MAX_WIRES, All-map}
 use Rattle.gc_label.proofs.SeedLemmas.{offset_of-lt, input_label_of-lt}
 use Rattle.gc_half.specs.Canonical.{garbling_of}
 use Rattle.gc_half.proofs.Bounds.{IsSmall-hash, IsSmall-⊕, IsSmall-times, IsSmall-row_pairs_of}
@@ -15,9 +15,8 @@ are_files c lawful seed =
     let few_rows : length g.rows ≤ MAX_GATES = omega (arith, garbled.garbling.row_count) in
     let bits = length-decode_bits g (omega arith) in
     let few_outputs : length (decode_bits_of g) ≤ MAX_WIRES = omega arith in
-    let rows : All (λ row. IsLabel row.generator × IsLabel row.evaluator) g.rows =
-    λ k row within. IsSmall-row_pairs_of c seed k (get_or g.rows k row)
-    (slice_get-get_or g.rows k row within) in
+    let rows : All IsRowPair g.rows =
+    λ k row within. IsSmall-row_pairs_of c seed k _ (slice_get-get_or g.rows k row within) in
     record {
       one = record {
         few_rows = few_rows;

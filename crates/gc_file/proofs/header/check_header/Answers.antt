@@ -7,12 +7,10 @@ returns-in_default c = bad_magic c.in_default.ensures
 
 pub returns-then-not-count_fits : goal.returns-then-not-count_fits
 returns-then-not-count_fits c =
-    let v = c.in-Some.field-0 in
     let many = c.if-not-count_fits.ensures in
-    too_many_rows v (begins v _ (omega (arith, many.0)) c.in-Some.ensures) many.0 many.1
+    too_many_rows _ (begins _ _ (omega (arith, many.0)) c.in-Some.ensures) many.0 many.1
 
 pub returns-then-not-count_fits-2 : goal.returns-then-not-count_fits-2
 returns-then-not-count_fits-2 c =
-    let v = c.in-Some.field-0 in
     let many = c.if-not-count_fits-2.ensures in
-    too_many_outputs v (begins v _ (omega (arith, many.0)) c.in-Some.ensures) many.0 many.1
+    too_many_outputs _ (begins _ _ (omega (arith, many.0)) c.in-Some.ensures) many.0 many.1

@@ -10,7 +10,6 @@ returns-in_err-check_header-clause-err g c =
 
 pub with-requires : goal.with-requires
 with-requires g c =
-    let same : c.args.header.items ++ c.args.piece.now ≡ c.new.result ++ c.cut.result.1.now =
     rw (
       c.new.ensures,
       c.append.ensures.items,
@@ -18,6 +17,4 @@ with-requires g c =
       c.cut.ensures.rest,
       append_assoc,
       take-append-drop,
-    ) refl in
-    subst (λ (x : List ℕ). IfSome c.args.digest (λ given. given.now ≡ sha256 (before_trailer x)))
-    same c.requires.digest
+    ) c.requires.digest

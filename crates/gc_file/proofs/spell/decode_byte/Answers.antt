@@ -2,16 +2,10 @@ use Rattle.gc_file.proofs.WriterNames.{◌≡◌, suc, ◌<◌, ◌-◌, ◌*◌
 use Rattle.gc_file.proofs.spell.decode_byte.Goals as goal
 
 pub overflow_mul-byte : goal.overflow_mul-byte
-overflow_mul-byte g c =
-    let bits = decode_bits_of c.args.garbling.now in
-    let below = bits_number-later bits (8 * c.args.k) c.loop-i.i (omega arith) in
-    record { fits = omega arith }
+overflow_mul-byte g c = record { fits = grind (arith, bits_number-later) }
 
 pub overflow_add-byte : goal.overflow_add-byte
-overflow_add-byte g c =
-    let bits = decode_bits_of c.args.garbling.now in
-    let below = bits_number-later bits (8 * c.args.k) c.loop-i.i (omega arith) in
-    record { fits = omega (arith, bool_byte-le c.decode_bit.result) }
+overflow_add-byte g c = record { fits = grind (arith, bits_number-later, bool_byte-le) }
 
 pub loop-i-init : goal.loop-i-init
 loop-i-init g c =

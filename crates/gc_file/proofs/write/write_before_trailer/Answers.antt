@@ -7,8 +7,7 @@ returns-in_err-write_body-clause-body g c =
     IsWritten-whole c.from_residual.result
     (body-size of.version of.circuit.now of.offset of.garbling.now
     c.in_err-write_body.ensures.small)
-    c.new-file.ensures
-    (append-nil (body (honest_parts_with of.version of.circuit.now of.garbling.now of.offset)))
+    c.new-file.ensures (append-nil _)
     (Ends-exit c.from_residual.result (λ _. []) c.from_residual.ensures.1
     c.in_err-write_body.ensures.bytes)
 
@@ -17,6 +16,5 @@ returns-clause-body g c =
     let of = c.args.of.now in
     IsWritten-whole c.end.result
     (body-size of.version of.circuit.now of.offset of.garbling.now c.in_ok-write_body.ensures.small)
-    c.new-file.ensures
-    (append-nil (body (honest_parts_with of.version of.circuit.now of.garbling.now of.offset)))
+    c.new-file.ensures (append-nil _)
     (Ends-step c.in_ok-write_body.ensures.bytes c.end.ensures.bytes)

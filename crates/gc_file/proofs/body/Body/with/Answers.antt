@@ -13,17 +13,9 @@ cut-up : (g : Over) (c : After-cut_up-cuts g) →
 cut-up g c =
     let decode_len : c.len-2.result ≡ length c.self.inside.decode_bytes.items = search rules in
     let trailer_len : c.len-4.result ≡ length c.self.inside.trailer.items = search rules in
-    rw (
-      ← c.as_slice.ensures.value,
-      ← c.of-counts.ensures.rows,
-      ← c.of-counts.ensures.decode_bytes,
-      ← c.of-counts.ensures.entries,
-      ← c.len.ensures,
-      ← decode_len,
-      ← c.len-3.ensures,
-      ← trailer_len,
-    )
-    c.cut_up-cuts.ensures
+    let header = c.as_slice.ensures.value in let counts = c.of-counts.ensures in
+    let rows_len = c.len.ensures in let entries_len = c.len-3.ensures in
+    grind (arith, c.cut_up-cuts.ensures)
 
 -- A digest that is given is that of the message, where the piece ends the file.
 given : (g : Over) (c : After-cut_up-cuts g) →
