@@ -1,27 +1,10 @@
 -- Depths of wires, gate after gate.
-use Rattle.std.proofs.Common.{◌≡◌, ◌≢◌, ℕ, zero, suc, ◌+◌, ◌<◌, ◌≤◌, ◌⊎◌, inl, inr, max, List, length, map, set, replicate, get_or, slice_get, Some, refl, sym, ap, subst, ◌∙◌, arith}
-use Rattle.std.proofs.lemmas.Bool.{cases_eq, cases_lt}
-use Rattle.std.proofs.lemmas.List.{get_or-set_same, get_or-set_other, length-replicate, get_or-replicate, get_or_past}
-use Rattle.std.proofs.lemmas.List.FromFn.{fill_by_all}
-use Rattle.std.specs.List.{range_with_len}
+use Rattle.gc_audit.proofs.Names.{◌≡◌, ◌≢◌, ℕ, ◌+◌, ◌<◌, ◌≤◌, ◌⊎◌, inl, inr, max, List, length, map, set, replicate, get_or, slice_get, Some, refl, sym, ap, ◌∙◌, arith, cases_eq, cases_lt, get_or-set_same, get_or-set_other, length-replicate, get_or-replicate, get_or_past, fill_by_all, range_with_len, Gate, Netlist, EachRead, IsSet, IsSetBefore, IsLawful, IsLocal, Solves, values_after, IsSetBefore-more, solution_solves, IsSetBefore-below, after-zero, read-table, and_depth_of, IsGreatest, depth_of, none_deep, depths_in, depths_of, depths_rule}
 use Rattle.gc_netlist.specs.declared.gate.Operation.{Operation}
-use Rattle.gc_netlist.specs.declared.gate.Operation.TheVariants.{Xor, And, Inv, Eqw, Eq}
-use Rattle.gc_netlist.specs.declared.gate.Gate.{Gate}
-use Rattle.gc_netlist.specs.Circuit.{Netlist, EachRead, IsSet, IsSetBefore, IsLawful}
-use Rattle.gc_netlist.specs.Solution.{IsLocal, Solves, values_after}
-use Rattle.gc_netlist.proofs.SolutionLemmas.{IsSetBefore-more, solution_solves}
-use Rattle.gc_netlist.proofs.Tables.{IsSetBefore-below, after-zero, read-table}
-use Rattle.gc_depth.specs.Depth.{and_depth_of}
 use Rattle.gc_audit.specs.declared.depths.Depths.{Depths}
-use Rattle.gc_audit.specs.Stats.{IsGreatest, depth_of}
-use Rattle.gc_audit.specs.Depths.{none_deep, depths_in, depths_of, depths_rule}
-
-depths_of_local : (u v : ℕ → Depths) (op : Operation) → EachRead (λ w. u w ≡ v w) op
-    → depths_of u op ≡ depths_of v op
-depths_of_local u v op h = grind arith
 
 pub depths_local : IsLocal depths_rule
-depths_local u v i g h = depths_of_local u v g.operation h
+depths_local u v i g h = grind arith
 
 -- A gate adds one at most.
 pub depth_of-le : (depth : ℕ → ℕ) (op : Operation) (n : ℕ) → ((w : ℕ) → depth w ≤ n)
@@ -79,15 +62,15 @@ module _ (c : Netlist) (lawful : IsLawful c) (i : ℕ) (g : Gate) (at : slice_ge
   pub deepest_more : (n m : ℕ) → IsDeepest c i table f n → f d ≤ n + 1 → m ≡ max n (f d) →
       IsDeepest c (i + 1) (set table g.set d) f m
   deepest_more n m h near is = record {
-    few = omega (arith, h.few, near, is);
+    few = omega arith;
     most = most_more n m h is;
     reached = elim (cases_lt n (f d)) [
       | inl deeper ↦ inr (
         g.set,
         inr (i, omega arith, record { gate = g; at = at; wire = refl }),
-        at_set ∙ omega (arith, is, deeper),
+        at_set ∙ omega arith,
       )
-      | inr not_deeper ↦ reached_before n m h.reached (omega (arith, is, not_deeper))
+      | inr not_deeper ↦ reached_before n m h.reached (omega arith)
     ];
   }
 

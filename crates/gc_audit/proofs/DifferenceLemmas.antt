@@ -1,5 +1,6 @@
 -- Two lists that are gone through place by place until they differ.
-use Rattle.gc_audit.proofs.Names.{◌≡◌, ◌≢◌, ℕ, ◌+◌, List, length, take, slice_get, Option, Some, None, MatchOption, refl, sym, ap, ◌∙◌, arith, take_all, take_more_same, slice_get_within, get_or_from_slice_get, DifferFirstAt}
+use Rattle.gc_audit.proofs.Names.{◌≡◌, ◌≢◌, ℕ, ◌+◌, List, length, take, slice_get, Option, Some, None, MatchOption, refl, sym, ap, ◌∙◌, arith, take_all, take_more_same, slice_get_within, get_or_from_slice_get}
+use Rattle.gc_audit.specs.Difference.{DifferFirstAt}
 
 module _ {X : Type 0} (xs ys : List X) where
   -- They first differ where they are the same before, and their elements differ.

@@ -1,17 +1,14 @@
 -- What an audit of a garbled file finds, from what it finds of each part.
-use Rattle.gc_audit.proofs.Names.{◌≡◌, ◌≢◌, ◌↔◌, ℕ, ◌+◌, ◌-◌, ◌<◌, Bool, true, false, List, length, map, take, slice_get, slice_index, get_or, Option, Some, None, MatchOption, refl, sym, ap, subst, ◌∙◌, arith, get_or_from_slice_get, slice_get-get_or, sha256, Netlist, IsLawful, canonical_text, offset_of, GarblingParts, FitsCircuit, decode_bits_of, garbling_of, row_pairs_of, HasLabels, length-row_pairs_of, parts-same, Version, One, Two, GarbledParts, entry_count, entry_pair_of, entry_pairs_of, length-decode_bits, length-entry_pairs, entry_pairs-at, version_entries, honest_parts_with, named, DifferFirstIn, IsEntryDifference}
-use Rattle.std.specs.List.{range_with_len}
-use Rattle.std.proofs.lemmas.List.FromFn.{get_or-map-range_with_len}
+use Rattle.gc_audit.proofs.Names.{◌≡◌, ◌≢◌, ◌↔◌, ℕ, ◌+◌, ◌-◌, ◌<◌, Bool, true, false, List, length, map, take, slice_get, slice_index, get_or, Option, Some, None, MatchOption, refl, sym, ap, subst, ◌∙◌, arith, get_or_from_slice_get, slice_get-get_or, slice_get_read, sha256, Netlist, IsLawful, canonical_text, offset_of, GarblingParts, FitsCircuit, decode_bits_of, garbling_of, row_pairs_of, HasLabels, length-row_pairs_of, parts-same, Version, One, Two, GarbledParts, entry_count, entry_pair_of, entry_pairs_of, length-decode_bits, length-entry_pairs, entry_pairs-at, version_entries, honest_parts_with, named, DifferFirstIn, IsEntryDifference, range_with_len, get_or-map-range_with_len, AreCountsRight, IsRowsAudit, IsBitsAudit, IsPartsAudit, IsPartsAuditWith, IsGarbledAuditWith, honest_audit}
 use Rattle.gc_half.specs.Entry.{entry_of, entries_of, label_of_colour, output_tweak}
 use Rattle.gc_half.specs.Hash.{hash}
 use Rattle.gc_file.specs.declared.parts.EntryPair.{EntryPair}
 use Rattle.gc_audit.specs.declared.garbled.GarbledAudit.{GarbledAudit}
 use Rattle.gc_audit.specs.declared.garbled.PartsAudit.{PartsAudit}
-use Rattle.gc_audit.specs.Garbled.{AreCountsRight, IsRowsAudit, IsBitsAudit, IsPartsAudit, IsPartsAuditWith, IsGarbledAuditWith, honest_audit}
-use Rattle.gc_audit.proofs.DifferenceLemmas.{differ_first, none_found}
+use Rattle.gc_audit.proofs.DifferenceLemmas.{differ_first, same_more, none_found}
 
 -- The entry pair of an output is at its place.
-pub pair_at_output : (offset : ℕ) (g : GarblingParts) (i : ℕ) → i < g.outputs →
+pair_at_output : (offset : ℕ) (g : GarblingParts) (i : ℕ) → i < g.outputs →
     slice_get (entry_pairs_of offset g) i ≡ Some (entry_pair_of offset g i)
 pair_at_output offset g i below =
     let pair = entry_pair_of offset g i in
@@ -35,17 +32,34 @@ DifferFirstIn-differ : (p q : EntryPair) (s : Bool) → DifferFirstIn p q s → 
 DifferFirstIn-differ p q false differ = λ same. differ cc
 DifferFirstIn-differ p q true differ = λ same. differ.1 cc
 
--- The first entry that differs, from the pairs of its output.
-pub entry_difference : (entries pairs : List EntryPair) (i : ℕ) (p q : EntryPair) (s : Bool)
-    → take i entries ≡ take i pairs → slice_get entries i ≡ Some p → slice_get pairs i ≡ Some q
-    → DifferFirstIn p q s → IsEntryDifference entries pairs (record { output = i; colour = s })
-entry_difference entries pairs i p q s before at_p at_q differ = record {
-  first = differ_first entries pairs i p q before at_p at_q (DifferFirstIn-differ p q s differ);
-  colour =
-      let none : EntryPair = record { entry_zero = 0; entry_one = 0 } in
-      rw (get_or_from_slice_get entries i p none at_p, get_or_from_slice_get pairs i q none at_q)
-      differ;
-}
+-- The entries of an output, and the pair that they are compared with, where all are the same before.
+module _ (offset : ℕ) (g : GarblingParts) (entries : List EntryPair) (i : ℕ) (p q : EntryPair)
+    (before : take i entries ≡ take i (entry_pairs_of offset g)) (within : i < length entries)
+    (is_p : p ≡ get_or entries i p) (below : i < g.outputs) (is_q : q ≡ entry_pair_of offset g i)
+  where
+    at_p : slice_get entries i ≡ Some p
+    at_p = slice_get_read entries (length entries) i p refl within is_p
+
+    at_q : slice_get (entry_pairs_of offset g) i ≡ Some q
+    at_q = rw is_q (pair_at_output offset g i below)
+
+    -- They differ first here,
+    pub differ_there : (s : Bool) → DifferFirstIn p q s
+        → IsEntryDifference entries (entry_pairs_of offset g) (record { output = i; colour = s })
+    differ_there s differ = record {
+      first = differ_first entries _ i p q before at_p at_q (DifferFirstIn-differ p q s differ);
+      colour =
+          let none : EntryPair = record { entry_zero = 0; entry_one = 0 } in
+          rw (
+            get_or_from_slice_get entries i p none at_p,
+            get_or_from_slice_get (entry_pairs_of offset g) i q none at_q,
+          ) differ;
+    }
+
+    -- or are the same up to the next place.
+    pub same_there : p ≡ q → (next : ℕ) → next ≡ i + 1
+        → take next entries ≡ take next (entry_pairs_of offset g)
+    same_there same next is = rw is (same_more entries _ i p q before at_p at_q same)
 
 module _ (c : Netlist) (g : GarblingParts) (offset : ℕ) (file : GarbledParts) where
   abbrev IsHonest : Type 0

@@ -22,11 +22,11 @@ module _ (offset : ℕ) (zero_label : ℕ → ℕ) where
   encoded-same : IsTrue (colour offset) → (first : ℕ) (xs ys : List Bool) → length xs ≡ length ys
       → encoded_with offset zero_label first xs ≡ encoded_with offset zero_label first ys → xs ≡ ys
   encoded-same odd first [] [] len same = refl
-  encoded-same odd first [] (y ∷ ys) len same = absurd (omega arith)
-  encoded-same odd first (x ∷ xs) [] len same = absurd (omega arith)
+  encoded-same odd first [] (y ∷ ys) len same = cc
+  encoded-same odd first (x ∷ xs) [] len same = cc
   encoded-same odd first (x ∷ xs) (y ∷ ys) len same =
-      let one = encode-same offset (zero_label first) x y odd (cc) in
-      let rest = encoded-same odd (first + 1) xs ys (omega arith) (cc) in
+      let one = encode-same offset (zero_label first) x y odd cc in
+      let rest = encoded-same odd (first + 1) xs ys (omega arith) cc in
       cc
 
   -- The label at a place stands for the bit there.
@@ -57,7 +57,7 @@ module _ (offset : ℕ) (zero_label : ℕ → ℕ) where
       count,
       is,
     ),
-    ap length pushed ∙ omega (arith, length-append bits (bit ∷ []), count),
+    ap length pushed ∙ omega (arith, length-append bits (bit ∷ [])),
   )
 
 -- What `get` found at an index.
@@ -92,8 +92,7 @@ module _ (c : Netlist) (offset : ℕ) (odd : IsTrue (colour offset))
   length-dealt : (bits : List Bool) → IsDealtWith c offset zero_label file bits
       → length file.labels ≡ length bits
   length-dealt bits dealt =
-      ap (λ (f : LabelFileParts). length f.labels) dealt.parts
-      ∙ length-encoded_with offset zero_label (first_wire_of c file.index) bits
+      rw dealt.parts (length-encoded_with offset zero_label (first_wire_of c file.index) bits)
 
   -- It has no wrong label.
   dealt-right : (bits : List Bool) (wire : ℕ) → IsDealtWith c offset zero_label file bits

@@ -1,14 +1,8 @@
 -- Which wires gates read, gate after gate.
-use Rattle.std.proofs.Common.{◌≡◌, ℕ, ◌+◌, ◌<◌, ◌≤◌, ◌||◌, ◌++◌, Bool, true, false, List, length, map, slice_get, slice_index_or, Some, sym, ap, ◌∙◌, arith, take, take_all}
-use Rattle.std.specs.List.{range_with_len}
+use Rattle.gc_audit.proofs.Names.{◌≡◌, ℕ, ◌+◌, ◌<◌, ◌≤◌, ◌||◌, ◌++◌, Bool, true, false, List, length, map, slice_get, slice_index_or, Some, ap, ◌∙◌, arith, take, take_all, range_with_len, fill_by_all, slice_get_within, get_or_from_slice_get, Gate, Netlist, output_wires, reads, is_read, is_unread}
 use Rattle.std.proofs.lemmas.Bool.Decides.{nat_tests}
 use Rattle.std.proofs.lemmas.Grind.{common_steps}
 use Rattle.std.proofs.lemmas.List.Folds.{list_any_more}
-use Rattle.std.proofs.lemmas.List.FromFn.{fill_by_all}
-use Rattle.std.proofs.lemmas.Option.{slice_get_within, get_or_from_slice_get}
-use Rattle.gc_netlist.specs.declared.gate.Gate.{Gate}
-use Rattle.gc_netlist.specs.Circuit.{Netlist, output_wires, reads}
-use Rattle.gc_audit.specs.Stats.{is_read, is_unread}
 
 -- one more gate
 pub is_read-more : (gates : List Gate) (i : ℕ) (g : Gate) (w : ℕ) → slice_get gates i ≡ Some g →
@@ -32,19 +26,3 @@ pub is_read-all : (gates : List Gate) (i n : ℕ) (read : List Bool) → length 
 is_read-all gates i n read all long each =
     fill_by_all (is_read gates) read n false long
     (λ w below. each w below ∙ ap (λ l. is_read l w) (take_all i gates all))
-
--- The gate sets a wire that is read,
-pub not_unread-read : (c : Netlist) (g : Gate) → is_read c.gates g.set ≡ true
-    → is_unread c g ≡ false
-not_unread-read c g read = grind arith
-
--- or an output wire,
-pub not_unread-output : (c : Netlist) (g : Gate) → c.wires ≤ g.set + output_wires c
-    → is_unread c g ≡ false
-not_unread-output c g output = grind (arith, nat_tests)
-
--- or neither.
-pub unread : (c : Netlist) (g : Gate) → is_read c.gates g.set ≡ false
-    → g.set + output_wires c < c.wires →
-    is_unread c g ≡ true
-unread c g not_read before = grind (arith, nat_tests)

@@ -1,5 +1,4 @@
-use Rattle.gc_audit.proofs.Names.{◌<◌, Option, None, Some, IfSome, sym, subst, arith, slice_get_within, and_count, Mismatch, row_pairs_of, IsComparison, length-row_pairs_of}
-use Rattle.gc_audit.specs.Garbled.{IsBitsAudit}
+use Rattle.gc_audit.proofs.Names.{◌<◌, Option, None, Some, IfSome, sym, subst, arith, slice_get_within, and_count, Mismatch, row_pairs_of, IsComparison, length-row_pairs_of, IsBitsAudit}
 use Rattle.gc_audit.proofs.GarbledLemmas.{compared-audit}
 use Rattle.gc_audit.proofs.garbled.audit_compared.Goals as goal
 

@@ -1,5 +1,5 @@
+use Rattle.gc_audit.proofs.Names.{input_label_of}
 use Rattle.gc_half.proofs.ComparingLemmas.{HasLabels-input}
-use Rattle.gc_label.specs.Seed.{input_label_of}
 use Rattle.gc_audit.proofs.labels.audit_labels.Goals as goal
 
 pub audit_labels_with_offset-requires : goal.audit_labels_with_offset-requires

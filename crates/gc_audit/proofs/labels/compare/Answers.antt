@@ -16,11 +16,7 @@ loop-i-preserved g c =
           (omega arith)
           c.zero_label.ensures label _ c.in-Some.ensures) c.in_ok-push.ensures.items).0;
       count = ap length c.in_ok-push.ensures.items
-          ∙ omega (
-            arith,
-            length-append c.loop-i.bits.items (c.in-Some.bit ∷ []),
-            c.loop-i.invariant.count,
-          );
+          ∙ omega (arith, length-append c.loop-i.bits.items (c.in-Some.bit ∷ []));
     }
 
 pub returns-in_default : goal.returns-in_default

@@ -1,4 +1,4 @@
-use Rattle.std.proofs.Common.{◌≡◌, take}
+use Rattle.gc_audit.proofs.Names.{◌≡◌, take}
 use Rattle.gc_audit.proofs.rows.first_mismatch.Given as goal
 
 abbrev pub invariant-loop-place : goal.invariant-loop-place

@@ -1,7 +1,4 @@
-use Rattle.gc_audit.proofs.Names.{length, refl, ap, arith, rules, slice_get_read}
-use Rattle.gc_file.specs.GarbledFile.{row_bytes}
-use Rattle.gc_file.proofs.LabelBytesLemmas.{length-row_bytes}
-use Rattle.gc_file.proofs.PairLemmas.{length-pairs}
+use Rattle.gc_audit.proofs.Names.{length, refl, ap, arith, rules, slice_get_read, row_bytes, length-row_bytes, length-pairs}
 use Rattle.gc_audit.proofs.DifferenceLemmas.{same_more, same_all}
 use Rattle.gc_audit.proofs.rows.first_mismatch_in.Goals as goal
 

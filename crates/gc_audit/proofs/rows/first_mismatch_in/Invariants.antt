@@ -1,7 +1,4 @@
-use Rattle.gc_audit.proofs.Names.{◌≡◌, List, take}
-use Rattle.std.proofs.Common.{All, flat_map}
-use Rattle.gc_half.specs.declared.garbling.RowPair.{RowPair}
-use Rattle.gc_file.specs.GarbledFile.{IsRowPair, row_bytes}
+use Rattle.gc_audit.proofs.Names.{◌≡◌, List, take, All, flat_map, RowPair, IsRowPair, row_bytes}
 use Rattle.gc_audit.proofs.rows.first_mismatch_in.Given as goal
 
 abbrev pub invariant-loop-place : goal.invariant-loop-place

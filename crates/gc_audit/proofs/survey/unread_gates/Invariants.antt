@@ -1,5 +1,4 @@
-use Rattle.std.proofs.Common.{◌≡◌, count_by, take}
-use Rattle.gc_audit.specs.Stats.{is_unread}
+use Rattle.gc_audit.proofs.Names.{◌≡◌, count_by, take, is_unread}
 use Rattle.gc_audit.proofs.survey.unread_gates.Given as goal
 
 abbrev pub invariant-loop-i : goal.invariant-loop-i

@@ -1,12 +1,4 @@
-use Rattle.std.proofs.Common.{◌≡◌, ◌<◌, ◌||◌, false, length, drop, replicate, slice_index_or, refl, ap, ◌∙◌, arith}
-use Rattle.std.proofs.lemmas.List.{length-replicate, get_or-replicate}
-use Rattle.gc_netlist.specs.Circuit.{reads, is_and}
-use Rattle.gc_netlist.proofs.SolutionLemmas.{EachRead-map}
-use Rattle.gc_netlist.proofs.Tables.{table_step, length-table, EachRead-below}
-use Rattle.gc_audit.specs.declared.depths.Depths.{Depths}
-use Rattle.gc_depth.specs.Depth.{and_depth_rule}
-use Rattle.gc_audit.specs.Stats.{is_xor, is_inv, is_eq, is_eqw, depth_rule}
-use Rattle.gc_audit.specs.Depths.{none_deep, depths_in, depths_rule}
+use Rattle.gc_audit.proofs.Names.{◌≡◌, ◌<◌, ◌||◌, false, length, drop, replicate, slice_index_or, refl, ap, ◌∙◌, arith, length-replicate, get_or-replicate, reads, is_and, EachRead-map, table_step, length-table, EachRead-below, and_depth_rule, is_xor, is_inv, is_eq, is_eqw, depth_rule, none_deep, depths_in, depths_rule}
 use Rattle.gc_audit.proofs.CountLemmas.{count_more}
 use Rattle.gc_audit.proofs.DepthLemmas.{table_start, deepest_start, deepest_more, deepest_all, depths_local, depth_of-le}
 use Rattle.gc_audit.proofs.ReadLemmas.{is_read-more, is_read-all, written_back}
@@ -56,6 +48,7 @@ loop-i-preserved g c =
     let table = c.loop-i.depths.items in
     let reached = c.of-reached.result in
     let before = c.loop-i.invariant in
+    let more = count_more circuit.gates i gate at in
     let place : gate.set < length table =
     omega (arith, length-table _ circuit.wires _ before.table, lawful.sets i gate at) in
     let found : reached ≡ depths_rule (depths_in table) i gate =
@@ -67,16 +60,11 @@ loop-i-preserved g c =
     (c.mark_read.auto.read ∙ c.deref_mut.ensures.len) in
     record {
       counts = record {
-        xor = count_more (λ x. is_xor x.operation) circuit.gates i gate _ _ at before.counts.xor
-            c.add.ensures.xor;
-        and = count_more (λ x. is_and x.operation) circuit.gates i gate _ _ at before.counts.and
-            c.add.ensures.and;
-        inv = count_more (λ x. is_inv x.operation) circuit.gates i gate _ _ at before.counts.inv
-            c.add.ensures.inv;
-        eq = count_more (λ x. is_eq x.operation) circuit.gates i gate _ _ at before.counts.eq
-            c.add.ensures.eq;
-        eqw = count_more (λ x. is_eqw x.operation) circuit.gates i gate _ _ at before.counts.eqw
-            c.add.ensures.eqw;
+        xor = more (λ x. is_xor x.operation) _ _ before.counts.xor c.add.ensures.xor;
+        and = more (λ x. is_and x.operation) _ _ before.counts.and c.add.ensures.and;
+        inv = more (λ x. is_inv x.operation) _ _ before.counts.inv c.add.ensures.inv;
+        eq = more (λ x. is_eq x.operation) _ _ before.counts.eq c.add.ensures.eq;
+        eqw = more (λ x. is_eqw x.operation) _ _ before.counts.eqw c.add.ensures.eqw;
       };
       table = table_step depths_rule depths_local circuit lawful
           (λ w. none_deep) table i gate none_deep reached

@@ -1,9 +1,4 @@
-use Rattle.std.proofs.Common.{◌≡◌, ◌<◌, ℕ, false, length, map, take, slice_index_or}
-use Rattle.std.specs.List.{range_with_len}
-use Rattle.gc_netlist.specs.Solution.{values_after}
-use Rattle.gc_audit.specs.Counts.{AreCounts}
-use Rattle.gc_audit.specs.Depths.{none_deep, depths_rule}
-use Rattle.gc_audit.specs.Stats.{is_read}
+use Rattle.gc_audit.proofs.Names.{◌≡◌, ◌<◌, ℕ, false, length, map, take, slice_index_or, range_with_len, values_after, AreCounts, none_deep, depths_rule, is_read}
 use Rattle.gc_audit.proofs.DepthLemmas.{IsDeepest}
 use Rattle.gc_audit.proofs.survey.Survey.of.Given as goal
 
