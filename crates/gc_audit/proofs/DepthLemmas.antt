@@ -1,5 +1,5 @@
 -- Depths of wires, gate after gate.
-use Rattle.gc_audit.proofs.Names.{◌≡◌, ◌≢◌, ℕ, ◌+◌, ◌<◌, ◌≤◌, ◌⊎◌, inl, inr, max, List, length, map, set, replicate, get_or, slice_get, Some, refl, sym, ap, ◌∙◌, arith, cases_eq, cases_lt, get_or-set_same, get_or-set_other, length-replicate, get_or-replicate, get_or_past, fill_by_all, range_with_len, Gate, Netlist, EachRead, IsSet, IsSetBefore, IsLawful, IsLocal, Solves, values_after, IsSetBefore-more, solution_solves, IsSetBefore-below, after-zero, read-table, and_depth_of, IsGreatest, depth_of, none_deep, depths_in, depths_of, depths_rule}
+use Rattle.gc_audit.proofs.Names.{◌≡◌, ◌≢◌, ℕ, ◌+◌, ◌<◌, ◌≤◌, ◌⊎◌, inl, inr, max, List, length, map, set, replicate, get_or, slice_get, Some, refl, sym, ap, ◌∙◌, arith, cases_eq, cases_lt, get_or-set_same, get_or-set_other, length-replicate, get_or-replicate, get_or_past, fill_by_all, range_with_len, Gate, Netlist, IsSet, IsSetBefore, IsLawful, IsLocal, Solves, values_after, IsSetBefore-more, solution_solves, IsSetBefore-below, after-zero, read-table, and_depth_of, IsGreatest, depth_of, none_deep, depths_in, depths_rule}
 use Rattle.gc_netlist.specs.declared.gate.Operation.{Operation}
 use Rattle.gc_audit.specs.declared.depths.Depths.{Depths}
 

@@ -1,5 +1,6 @@
 -- What an audit of a garbled file finds, from what it finds of each part.
-use Rattle.gc_audit.proofs.Names.{◌≡◌, ◌≢◌, ◌↔◌, ℕ, ◌+◌, ◌-◌, ◌<◌, Bool, true, false, List, length, map, take, slice_get, slice_index, get_or, Option, Some, None, MatchOption, refl, sym, ap, subst, ◌∙◌, arith, get_or_from_slice_get, slice_get-get_or, slice_get_read, sha256, Netlist, IsLawful, canonical_text, offset_of, GarblingParts, FitsCircuit, decode_bits_of, garbling_of, row_pairs_of, HasLabels, length-row_pairs_of, parts-same, Version, One, Two, GarbledParts, entry_count, entry_pair_of, entry_pairs_of, length-decode_bits, length-entry_pairs, entry_pairs-at, version_entries, honest_parts_with, named, DifferFirstIn, IsEntryDifference, range_with_len, get_or-map-range_with_len, AreCountsRight, IsRowsAudit, IsBitsAudit, IsPartsAudit, IsPartsAuditWith, IsGarbledAuditWith, honest_audit}
+use Rattle.gc_audit.proofs.Names.{◌≡◌, ◌≢◌, ◌↔◌, ℕ, ◌+◌, ◌-◌, ◌<◌, Bool, true, false, List, length, map, take, slice_get, slice_index, get_or, Option, Some, None, MatchOption, refl, sym, ap, subst, ◌∙◌, arith, get_or_from_slice_get, slice_get-get_or, slice_get_read, Netlist, IsLawful, offset_of, GarblingParts, FitsCircuit, decode_bits_of, garbling_of, row_pairs_of, HasLabels, length-row_pairs_of, parts-same, Version, One, Two, GarbledParts, entry_count, entry_pair_of, entry_pairs_of, length-decode_bits, length-entry_pairs, entry_pairs-at, version_entries, honest_parts_with, range_with_len, get_or-map-range_with_len, AreCountsRight, IsRowsAudit, IsBitsAudit, IsPartsAudit, IsPartsAuditWith, IsGarbledAuditWith, honest_audit}
+use Rattle.gc_audit.specs.Entries.{named, DifferFirstIn, IsEntryDifference}
 use Rattle.gc_half.specs.Entry.{entry_of, entries_of, label_of_colour, output_tweak}
 use Rattle.gc_half.specs.Hash.{hash}
 use Rattle.gc_file.specs.declared.parts.EntryPair.{EntryPair}
@@ -65,12 +66,6 @@ module _ (c : Netlist) (g : GarblingParts) (offset : ℕ) (file : GarbledParts) 
   abbrev IsHonest : Type 0
   IsHonest = file ≡ honest_parts_with file.version c g offset
 
-  -- A file is honest where each part is.
-  honest-parts : file.digest ≡ sha256 (canonical_text c) → file.rows ≡ g.rows
-      → file.decode_bits ≡ decode_bits_of g
-      → file.entries ≡ version_entries file.version offset g → IsHonest
-  honest-parts digest rows bits entries = rw (← entries, ← bits, ← digest, ← rows)
-
   -- An honest file has the counts of the circuit.
   honest-counts : IsLawful c → FitsCircuit c g → IsHonest → AreCountsRight c file
   honest-counts lawful fits is =
@@ -95,12 +90,9 @@ module _ (c : Netlist) (g : GarblingParts) (offset : ℕ) (file : GarbledParts) 
     none-in_parts None wrong = absurd (wrong (honest-counts lawful fits is))
     none-in_parts (Some p) found =
         rw (
-          none_found p.rows _ _ (λ d. d.number) _ (λ d h. h.first) found.rows
-              (ap (λ (f : GarbledParts). f.rows) is),
-          none_found p.bits _ _ (λ d. d) _ (λ d h. h) found.bits
-              (ap (λ (f : GarbledParts). f.decode_bits) is),
-          none_found p.entries _ _ (λ d. d.output) _ (λ d h. h.first) found.entries
-              (ap (λ (f : GarbledParts). f.entries) is),
+          none_found p.rows _ _ (λ d. d.number) _ (λ d h. h.first) found.rows (rw is),
+          none_found p.bits _ _ (λ d. d) _ (λ d h. h) found.bits (rw is),
+          none_found p.entries _ _ (λ d. d.output) _ (λ d h. h.first) found.entries (rw is),
         )
 
     none-in_file : (audit : GarbledAudit) → IsGarbledAuditWith c g offset file audit
@@ -116,7 +108,7 @@ module _ (c : Netlist) (g : GarblingParts) (offset : ℕ) (file : GarbledParts) 
   finds_none-honest lawful fits audit found = (
     λ none.
         let at = subst (IsGarbledAuditWith c g offset file) none found in
-        honest-parts (at.digest.0 refl) at.parts.rows at.parts.bits at.parts.entries,
+        rw (← at.parts.entries, ← at.parts.bits, ← at.digest.0 refl, ← at.parts.rows),
     λ is. none-in_file lawful fits is audit found,
   )
 

@@ -6,11 +6,9 @@ pub use Rattle.std.proofs.lemmas.List.FromFn.{fill_by_all, get_or-map-range_with
 pub use Rattle.std.proofs.lemmas.Option.{get_or_from_slice_get, slice_get-get_or, slice_get_read, slice_get_within}
 pub use Rattle.std.specs.List.{range_with_len}
 pub use Rattle.gc_audit.specs.Counts.{AreCounts, one_if}
-pub use Rattle.gc_audit.specs.Depths.{depths_in, depths_of, depths_rule, none_deep}
-pub use Rattle.gc_audit.specs.Entries.{DifferFirstIn, IsEntryDifference, named}
+pub use Rattle.gc_audit.specs.Depths.{depths_in, depths_rule, none_deep}
 pub use Rattle.gc_audit.specs.Garbled.{AreCountsRight, IsBitsAudit, IsGarbledAuditWith, IsPartsAudit, IsPartsAuditWith, IsRowsAudit, honest_audit}
 pub use Rattle.gc_audit.specs.Labels.{HasBits, HasInputLabels, IsDealtWith, IsFirstWrong, IsVerdictFrom, IsVerdictWith, first_wire_of}
-pub use Rattle.gc_audit.specs.Rows.{DifferIn, IsAndGate, IsRowDifference}
 pub use Rattle.gc_audit.specs.Stats.{IsGreatest, depth_of, depth_rule, is_eq, is_eqw, is_inv, is_read, is_unread, is_xor}
 pub use Rattle.gc_audit.specs.declared.labels.LabelsVerdict.TheVariants.{Bits, NoValue, WrongLabel, WrongWidth}
 pub use Rattle.gc_depth.specs.Depth.{and_depth_of, and_depth_rule}
@@ -34,8 +32,6 @@ pub use Rattle.gc_half.specs.declared.garbling.RowPair.{RowPair}
 pub use Rattle.gc_label.specs.Seed.{input_label_of, offset_of}
 pub use Rattle.gc_netlist.proofs.SolutionLemmas.{EachRead-map, IsSetBefore-more, solution_solves}
 pub use Rattle.gc_netlist.proofs.Tables.{EachRead-below, IsSetBefore-below, after-zero, length-table, read-table, table_step}
-pub use Rattle.gc_netlist.specs.Canon.{canonical_text}
-pub use Rattle.gc_netlist.specs.Circuit.{EachRead, IsLawful, IsSet, IsSetBefore, Netlist, and_count, and_number, input_wires, is_and, output_wires, reads}
+pub use Rattle.gc_netlist.specs.Circuit.{IsLawful, IsSet, IsSetBefore, Netlist, and_count, and_number, input_wires, is_and, reads}
 pub use Rattle.gc_netlist.specs.Solution.{IsLocal, Solves, values_after}
 pub use Rattle.gc_netlist.specs.declared.gate.Gate.{Gate}
-pub use Rattle.sha2.specs.Sha256.{sha256}

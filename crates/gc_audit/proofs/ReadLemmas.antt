@@ -1,6 +1,5 @@
 -- Which wires gates read, gate after gate.
-use Rattle.gc_audit.proofs.Names.{◌≡◌, ℕ, ◌+◌, ◌<◌, ◌≤◌, ◌||◌, ◌++◌, Bool, true, false, List, length, map, slice_get, slice_index_or, Some, ap, ◌∙◌, arith, take, take_all, range_with_len, fill_by_all, slice_get_within, get_or_from_slice_get, Gate, Netlist, output_wires, reads, is_read, is_unread}
-use Rattle.std.proofs.lemmas.Bool.Decides.{nat_tests}
+use Rattle.gc_audit.proofs.Names.{◌≡◌, ℕ, ◌+◌, ◌<◌, ◌≤◌, ◌||◌, ◌++◌, Bool, false, List, length, map, slice_get, slice_index_or, Some, ap, ◌∙◌, arith, take, take_all, range_with_len, fill_by_all, slice_get_within, get_or_from_slice_get, Gate, reads, is_read}
 use Rattle.std.proofs.lemmas.Grind.{common_steps}
 use Rattle.std.proofs.lemmas.List.Folds.{list_any_more}
 

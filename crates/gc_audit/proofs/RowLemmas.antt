@@ -1,5 +1,6 @@
 -- Row pairs in bytes, and the first that differs, from the first mismatch.
-use Rattle.gc_audit.proofs.Names.{◌≡◌, ℕ, zero, suc, ◌+◌, ◌*◌, ◌<◌, ◌≤◌, List, [], ◌∷◌, length, take, get_or, slice_get, Some, sym, ap, ◌∙◌, arith, slice_get_within, slice_get-get_or, get_or_from_slice_get, Netlist, Mismatch, IsFirstMismatch, row_at, DifferIn, IsAndGate, IsRowDifference, drop, flat_map, All, ◌++◌, take_at, append-nil, RowPair, IsRowPair, row_bytes, length-row_bytes, length-pairs}
+use Rattle.gc_audit.proofs.Names.{◌≡◌, ℕ, zero, suc, ◌+◌, ◌*◌, ◌<◌, ◌≤◌, List, [], ◌∷◌, length, take, get_or, slice_get, Some, sym, ap, ◌∙◌, arith, slice_get_within, slice_get-get_or, get_or_from_slice_get, Netlist, Mismatch, IsFirstMismatch, row_at, drop, flat_map, All, ◌++◌, take_at, append-nil, RowPair, IsRowPair, row_bytes, length-row_bytes, length-pairs}
+use Rattle.gc_audit.specs.Rows.{DifferIn, IsAndGate, IsRowDifference}
 use Rattle.std.proofs.Math.Seq.{drop-append-add}
 use Rattle.gc_file.proofs.ItemLemmas.{row_of, row_spelling}
 use Rattle.gc_audit.specs.declared.rows.RowDifference.{RowDifference}

@@ -1,4 +1,4 @@
-use Rattle.gc_audit.proofs.Names.{◌+◌, refl, arith}
+use Rattle.gc_audit.proofs.Names.{◌+◌, arith}
 use Rattle.gc_audit.proofs.GarbledLemmas.{differ_there, same_there, named_at}
 use Rattle.gc_audit.proofs.entries.audit_four.Goals as goal
 

@@ -1,4 +1,6 @@
-use Rattle.gc_audit.proofs.Names.{◌≡◌, ◌↔◌, IsTrue, rules, sha256, canonical_text}
+use Rattle.gc_audit.proofs.Names.{◌≡◌, ◌↔◌, IsTrue, rules}
+use Rattle.sha2.specs.Sha256.{sha256}
+use Rattle.gc_netlist.specs.Canon.{canonical_text}
 use Rattle.gc_audit.proofs.GarbledLemmas.{finds_none-honest}
 use Rattle.gc_audit.proofs.garbled.audit_garbled.Goals as goal
 

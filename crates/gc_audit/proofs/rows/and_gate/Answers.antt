@@ -1,4 +1,4 @@
-use Rattle.gc_audit.proofs.Names.{◌≡◌, suc, ◌+◌, sym, ap, ◌∙◌, arith, and_number, and_number-and, and_number-other}
+use Rattle.gc_audit.proofs.Names.{◌≡◌, suc, ◌+◌, ap, arith, and_number, and_number-and, and_number-other}
 use Rattle.gc_audit.proofs.rows.and_gate.Goals as goal
 
 pub loop-i-preserved : goal.loop-i-preserved

@@ -1,4 +1,4 @@
-use Rattle.gc_audit.proofs.Names.{◌≡◌, ◌<◌, length, IfSome, MatchOption, subst, sym, arith, and_count, Mismatch, IsFirstMismatch, and_number-le, and_number-end, DifferIn}
+use Rattle.gc_audit.proofs.Names.{length, arith, and_number-le, and_number-end}
 use Rattle.gc_audit.proofs.RowLemmas.{row_found}
 use Rattle.gc_audit.proofs.rows.row_difference.Goals as goal
 

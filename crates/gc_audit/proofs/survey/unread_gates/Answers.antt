@@ -1,4 +1,4 @@
-use Rattle.gc_audit.proofs.Names.{◌≡◌, ◌+◌, false, slice_index_or, sym, ap, ◌∙◌, arith, length-table, read-table, is_read, is_unread}
+use Rattle.gc_audit.proofs.Names.{◌≡◌, false, slice_index_or, ap, ◌∙◌, arith, length-table, read-table, is_read, is_unread}
 use Rattle.gc_audit.proofs.CountLemmas.{count_more}
 use Rattle.std.proofs.lemmas.Bool.Decides.{nat_tests}
 use Rattle.gc_audit.proofs.survey.unread_gates.Goals as goal
