@@ -1,15 +1,10 @@
 -- Parts that are whole are a garbled file.
-use Rattle.gc_file.proofs.Names.{◌≡◌, ℕ, ◌+◌, ◌<◌, List, ◌++◌, length, take, drop, map, flat_map, get_or, All, refl, sym, ap, arith, range_with_len, take-add, length-map-range_with_len, sha256, bit_in, IsSpare, number_bytes, GarbledParts, magic, row_bytes, entry_bytes, body, garbled_file, entry_count, IsLabel, IsGarbledFile, row_count, output_count, IsHeaderInOrder, version_of_bytes, entry_size, take_all, length-take-le, length-drop}
+use Rattle.gc_file.proofs.Names.{◌≡◌, ℕ, ◌+◌, ◌<◌, List, ◌++◌, length, take, drop, map, flat_map, get_or, All, refl, ap, arith, range_with_len, take-add, length-map-range_with_len, sha256, bit_in, IsSpare, number_bytes, GarbledParts, magic, row_bytes, entry_bytes, body, garbled_file, entry_count, IsLabel, IsGarbledFile, row_count, output_count, IsHeaderInOrder, version_of_bytes, entry_size, take_all, length-take-le, length-drop}
 use Rattle.gc_file.proofs.NumberLemmas.{number_bytes-u32_at}
 use Rattle.gc_file.proofs.LabelBytesLemmas.{length-row_bytes, length-entry_bytes}
 use Rattle.gc_file.proofs.PairLemmas.{length-pairs}
 use Rattle.gc_file.proofs.PlaceLemmas.{IsDecoded, begins}
 use Rattle.gc_file.proofs.PackLemmas.{packed-unpacked}
-
--- Two pieces that follow one another.
-pub take_plus : {X : Type 0} (a b : ℕ) (xs : List X)
-    → take a xs ++ take b (drop a xs) ≡ take (a + b) xs
-take_plus a b xs = sym (take-add a b xs)
 
 -- A header, in its parts.
 pub header_parts : (h digest : List ℕ) → length h ≡ 48 → IsHeaderInOrder (version_of_bytes h) h
@@ -23,9 +18,9 @@ header_parts h digest whole in_order small is =
       ← begins (version_of_bytes h) h (omega arith) in_order.begun,
       number_bytes-u32_at 40 h (omega arith) small,
       number_bytes-u32_at 44 h (omega arith) small,
-      take_plus 8 32 h,
-      take_plus 40 4 h,
-      take_plus 44 4 h,
+      ← take-add 8 32 h,
+      ← take-add 40 4 h,
+      ← take-add 44 4 h,
     )
     (take_all 48 h (omega arith))
 

@@ -1,8 +1,7 @@
 -- Bytes of the form of a label file.
-use Rattle.gc_file.proofs.Names.{◌≡◌, ℕ, ◌<◌, ◌≤◌, List, ◌++◌, length, take, drop, flat_map, get_or, All, sym, ap, ◌∙◌, arith, bytes_of_label, length-bytes_of_label, number_bytes, u32_at, IsLabel, MatchesMagic, label_count, IsLabelForm, take-append-drop, take_all, length-drop, label_magic, label_file, IsLabelFile}
+use Rattle.gc_file.proofs.Names.{take-add, ◌≡◌, ℕ, ◌<◌, ◌≤◌, List, ◌++◌, length, take, drop, flat_map, get_or, All, sym, ap, ◌∙◌, arith, bytes_of_label, length-bytes_of_label, number_bytes, u32_at, IsLabel, MatchesMagic, label_count, IsLabelForm, take-append-drop, take_all, length-drop, label_magic, label_file, IsLabelFile}
 use Rattle.gc_file.proofs.NumberLemmas.{u32_at-lt, number_bytes-u32_at}
 use Rattle.gc_file.proofs.PairLemmas.{length-flat_map}
-use Rattle.gc_file.proofs.FileLemmas.{take_plus}
 
 pub begins : (b : List ℕ) → 8 ≤ length b → MatchesMagic label_magic b → take 8 b ≡ label_magic
 begins b long begun = begun ∙ take_all (length b) label_magic long
@@ -31,7 +30,7 @@ label_file_is b are form index index_is labels labels_are each =
             labels_are,
             number_bytes-u32_at 8 b (omega arith) are,
             number_bytes-u32_at 12 b (omega arith) are,
-            take_plus 8 4 b,
-            take_plus 12 4 b,
+            ← take-add 8 4 b,
+            ← take-add 12 4 b,
           ) (take-append-drop 16 b));
     }

@@ -1,6 +1,5 @@
 -- Items of one size: labels, row pairs and entry pairs, and their bytes.
-use Rattle.gc_file.proofs.Names.{◌≡◌, ℕ, zero, suc, ◌+◌, ◌*◌, ◌<◌, List, [], ◌∷◌, ◌++◌, length, take, drop, flat_map, get_or, All, refl, ◌∙◌, arith, cases_lt, take-append-drop, take_at, drop_at, get_or_past, length-drop, length-take-le, bytes_of_label, label_of_bytes, length-bytes_of_label, label_of_bytes-bytes_of_label, bytes_of_label-label_of_bytes, label_of_bytes-lt, row_bytes, entry_bytes, IsLabel, AreBytes, mul-suc, All-cons, All-take, All-drop, RowPair, EntryPair}
-use Rattle.gc_file.specs.LabelBytes.{bytes_by, IsLabelPair}
+use Rattle.gc_file.proofs.Names.{◌≡◌, ℕ, zero, suc, ◌+◌, ◌*◌, ◌<◌, List, [], ◌∷◌, length, take, drop, flat_map, get_or, All, refl, ◌∙◌, arith, cases_lt, take-append-drop, take_at, drop_at, get_or_past, length-drop, length-take-le, bytes_of_label, label_of_bytes, length-bytes_of_label, label_of_bytes-bytes_of_label, bytes_of_label-label_of_bytes, label_of_bytes-lt, row_bytes, entry_bytes, IsLabel, AreBytes, mul-suc, All-cons, All-take, All-drop, RowPair, EntryPair, bytes_by, IsLabelPair}
 use Rattle.gc_file.proofs.LabelBytesLemmas.{length-bytes_by}
 
 -- Each place of bytes has a byte, or is past their end.

@@ -1,5 +1,5 @@
 -- How many bytes a pair of labels has.
-use Rattle.gc_file.proofs.Names.{◌≡◌, ℕ, ◌++◌, length, length-append, ◌∙◌, bytes_of_label, length-bytes_of_label, RowPair, EntryPair, row_bytes, entry_bytes, bytes_by}
+use Rattle.gc_file.proofs.Names.{◌≡◌, ℕ, length, length-append, length-bytes_of_label, RowPair, EntryPair, row_bytes, entry_bytes, bytes_by}
 
 pub length-bytes_by : {P : Type 0} (labels : P → ℕ × ℕ) (pair : P)
     → length (bytes_by labels pair) ≡ 32

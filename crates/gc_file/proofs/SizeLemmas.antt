@@ -1,5 +1,5 @@
 -- How many bytes the files have.
-use Rattle.gc_file.proofs.Names.{◌≡◌, ℕ, ◌+◌, ◌*◌, ◌^◌, ◌<◌, ◌≤◌, List, length, length-append, refl, ap, arith, sha256, length-sha256, Netlist, canonical_text, GarblingParts, One, Two, EntryPair, bytes_for, GarbledParts, body, row_bytes, entry_bytes, garbled_file, parts_of, IsSmall, Version, IsLawful, and_count, output_wires, FitsCircuit, decode_bits_of, entry_count, honest_parts_with, version_entries, ◌∙◌}
+use Rattle.gc_file.proofs.Names.{◌≡◌, ℕ, ◌+◌, ◌*◌, ◌^◌, ◌<◌, ◌≤◌, List, length, length-append, refl, arith, sha256, length-sha256, Netlist, canonical_text, GarblingParts, One, Two, EntryPair, bytes_for, GarbledParts, body, row_bytes, entry_bytes, garbled_file, parts_of, IsSmall, Version, IsLawful, and_count, output_wires, FitsCircuit, entry_count, honest_parts_with, version_entries}
 use Rattle.gc_file.proofs.NumberLemmas.{length-number_bytes}
 use Rattle.gc_file.proofs.PackLemmas.{length-packed}
 use Rattle.gc_file.proofs.ByteLemmas.{length-decode_bits, length-entry_pairs}
@@ -68,13 +68,10 @@ pub length-honest : (version : Version) (c : Netlist) → IsLawful c
     ≡ 48 + 32 * and_count c + bytes_for (output_wires c) + 32 * entry_count version (output_wires c)
     + 32
 length-honest version c lawful offset g fits =
-    let bits : length (decode_bits_of g) ≡ output_wires c =
-    length-decode_bits g (omega (arith, fits.wires, fits.outputs, lawful.outputs_fit))
-    ∙ fits.outputs in
-    let entries = length-version_entries version offset g ∙ ap (entry_count version) fits.outputs in
     rw (
       length-garbled_file (honest_parts_with version c g offset) (length-sha256 (canonical_text c)),
+      length-decode_bits g (omega (arith, fits.wires, fits.outputs, lawful.outputs_fit)),
+      length-version_entries version offset g,
       fits.and_gates,
-      bits,
-      entries,
+      fits.outputs,
     )

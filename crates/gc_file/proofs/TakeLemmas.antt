@@ -1,5 +1,5 @@
 -- A garbled file that is taken from a source.
-use Rattle.gc_file.proofs.Names.{◌≡◌, ℕ, ◌+◌, ◌*◌, inl, inr, List, ◌++◌, length, Option, Some, None, Result, Ok, Err, refl, ap, length-append, arith, FileFault, GarbledParts, lasting, Fed, IsFed, IsAnswer, IsTaken, IsAnswerOfAll, IsTaking, append-nil, Consumes-trans, Consumes, MAX_GATES, MAX_WIRES, saturated_count}
+use Rattle.gc_file.proofs.Names.{◌≡◌, ℕ, ◌+◌, ◌*◌, inl, inr, List, ◌++◌, length, Option, Some, None, Result, Ok, Err, refl, length-append, arith, FileFault, GarbledParts, lasting, Fed, IsFed, IsAnswer, IsTaken, IsAnswerOfAll, IsTaking, append-nil, Consumes-trans, Consumes, MAX_GATES, MAX_WIRES, saturated_count}
 use Rattle.gc_file.specs.declared.take.TakeFault.{TakeFault}
 use Rattle.gc_file.specs.declared.take.TakeFault.TheVariants.{File, ReadFault}
 use Rattle.gc_file.proofs.HeaderLemmas.{lasts}

@@ -1,5 +1,5 @@
 -- What the writers write are files.
-use Rattle.gc_file.proofs.Names.{IsRowPair, ℕ, List, length, sum, take, get_or, All, refl, sym, ◌∙◌, arith, range_with_len, zip, count_by-le-length, slice_get-get_or, length-sha256, Netlist, IsLawful, is_and, canonical_text, offset_of, IsLabel, entry_pair_of, decode_bits_of, ◌≤◌, MAX_GATES, MAX_WIRES, All-map}
+use Rattle.gc_file.proofs.Names.{IsRowPair, ℕ, List, length, sum, take, All, refl, sym, ◌∙◌, arith, range_with_len, zip, count_by-le-length, slice_get-get_or, length-sha256, Netlist, IsLawful, is_and, canonical_text, offset_of, IsLabel, entry_pair_of, decode_bits_of, ◌≤◌, MAX_GATES, MAX_WIRES, All-map}
 use Rattle.gc_label.proofs.SeedLemmas.{offset_of-lt, input_label_of-lt}
 use Rattle.gc_half.specs.Canonical.{garbling_of}
 use Rattle.gc_half.proofs.Bounds.{IsSmall-hash, IsSmall-⊕, IsSmall-times, IsSmall-row_pairs_of}

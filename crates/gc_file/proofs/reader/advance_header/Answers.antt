@@ -1,4 +1,4 @@
-use Rattle.gc_file.proofs.ReaderNames.{◌≡◌, ℕ, List, ◌++◌, refl, subst, append_assoc, IfSome, sha256, before_trailer, take-append-drop, err_from_is_err_and, lasts_piece}
+use Rattle.gc_file.proofs.ReaderNames.{append_assoc, take-append-drop, err_from_is_err_and, lasts_piece}
 use Rattle.gc_file.proofs.reader.advance_header.Goals as goal
 
 pub returns-in_err-check_header-clause-err : goal.returns-in_err-check_header-clause-err

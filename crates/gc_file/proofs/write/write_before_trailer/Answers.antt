@@ -1,4 +1,4 @@
-use Rattle.gc_file.proofs.WriterNames.{[], append-nil, body, honest_parts_with, body-size, Ends-exit, Ends-step, IsWritten-whole}
+use Rattle.gc_file.proofs.WriterNames.{[], append-nil, body-size, Ends-exit, Ends-step, IsWritten-whole}
 use Rattle.gc_file.proofs.write.write_before_trailer.Goals as goal
 
 pub returns-in_err-write_body-clause-body : goal.returns-in_err-write_body-clause-body

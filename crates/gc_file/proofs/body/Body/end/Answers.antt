@@ -1,13 +1,11 @@
-use Rattle.gc_file.proofs.ReaderNames.{◌≡◌, ◌<◌, length, arith, nat_tests, truncated, GarbledParts, version_of_bytes, in_order, ends_early}
+use Rattle.gc_file.proofs.ReaderNames.{◌≡◌, length, arith, nat_tests, truncated, GarbledParts, in_order, ends_early}
 use Rattle.gc_file.proofs.FileLemmas.{file_is}
 use Rattle.gc_file.proofs.body.Body.end.Goals as goal
 
 pub returns-then-not-is_full : goal.returns-then-not-is_full
 returns-then-not-is_full g c =
-    let short : length c.self.inside.trailer.items < 32 = grind (arith, nat_tests) in
     λ other. rw (← c.self.view_is)
-    (truncated (version_of_bytes c.self.inside.header.items) (in_order c.self.invariant)
-    (ends_early c.self.invariant short))
+    (truncated _ (in_order c.self.invariant) (ends_early c.self.invariant (grind (arith, nat_tests))))
 
 pub returns : goal.returns
 returns g c =
