@@ -1,15 +1,7 @@
 -- The labels that a garbler has on the wires of a value.
-use Rattle.std.proofs.Common.{◌≡◌, ℕ, ◌+◌, ◌-◌, ◌≤◌, List, length, take, drop, refl, sym, ap, ◌∙◌, drop-drop, arith}
-use Rattle.std.specs.List.{slice_index, sum}
-use Rattle.std.proofs.lemmas.List.{drop-take, take-take}
-use Rattle.std.proofs.lemmas.List.FromFn.{take-map-range_with_len, fill_by_all}
-use Rattle.gc_netlist.specs.Circuit.{Netlist, IsLawful, input_wires, output_wires}
-use Rattle.gc_half.specs.declared.garbling.RowPair.{RowPair}
-use Rattle.gc_half.specs.Garbling.{GarblingParts}
+use Rattle.gc_kept.proofs.Names.{◌≡◌, ℕ, ◌+◌, ◌-◌, ◌≤◌, List, length, take, drop, refl, sym, ap, ◌∙◌, drop-drop, arith, slice_index, sum, drop-take, take-take, take-map-range_with_len, fill_by_all, Netlist, IsLawful, input_wires, output_wires, RowPair, GarblingParts, StreamingGarblerParts, IsGarbledSoFar, first_output_of}
 use Rattle.gc_half.specs.Joined.{output_zero_labels}
-use Rattle.gc_half.specs.Streaming.{StreamingGarblerParts, IsGarbledSoFar}
 use Rattle.gc_half.proofs.PiecesLaw.{input_labels-kept, labels-table}
-use Rattle.gc_kept.specs.Labels.{first_output_of}
 
 module _ (c : Netlist) (lawful : IsLawful c) (given : List ℕ) (rows : List RowPair)
     (g : StreamingGarblerParts) (is : IsGarbledSoFar c given rows g) where
@@ -26,11 +18,9 @@ module _ (c : Netlist) (lawful : IsLawful c) (given : List ℕ) (rows : List Row
       → take width (drop from g.labels) ≡ take width (drop from given)
   value-given from width fits =
       let rest = input_wires c - from in
-      let whole : input_wires c ≡ from + rest = omega (arith, fits) in
-      sym (ap (λ labels. take width (drop from labels)) (sym inputs-given)
-      ∙ ap (λ n. take width (drop from (take n g.labels))) whole
-      ∙ ap (take width) (drop-take from rest g.labels)
-      ∙ take-take width rest (drop from g.labels) (omega (arith, fits)))
+      let whole : input_wires c ≡ from + rest = omega arith in
+      rw (← inputs-given, whole, drop-take from rest g.labels)
+      (sym (take-take width rest (drop from g.labels) (omega arith)))
 
 -- and on the output wires those of the garbling that it makes.
 pub value-made : (c : Netlist) (all : GarblingParts) (labels : List ℕ) (width index : ℕ)
@@ -39,7 +29,4 @@ pub value-made : (c : Netlist) (all : GarblingParts) (labels : List ℕ) (width 
     → take width (drop (sum (take index c.output_widths)) labels)
     ≡ take width (drop (first_output_of c index) all.zero_labels)
 value-made c all labels width index wires outputs are =
-    ap (λ l. take width (drop (sum (take index c.output_widths)) l)) are
-    ∙ ap (take width) (drop-drop (sum (take index c.output_widths))
-    (length all.zero_labels - all.outputs) all.zero_labels)
-    ∙ rw (wires, outputs) refl
+    rw (are, drop-drop (sum (take index c.output_widths)), wires, outputs) refl

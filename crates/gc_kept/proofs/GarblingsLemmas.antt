@@ -1,16 +1,8 @@
 -- Lists of garblings, and their files.
-use Rattle.std.proofs.Common.{◌≡◌, ◌↔◌, ℕ, ◌+◌, ◌-◌, ◌<◌, ◌≤◌, List, [], ◌∷◌, ◌++◌, length, map, take, drop, get_or, flat_map, refl, sym, ◌∙◌, ap, append-nil, take-add, drop-drop, arith}
-use Rattle.std.specs.List.{All}
-use Rattle.std.proofs.lemmas.List.{take_more, length-append, length-map, map-append, take-map, get_or-map}
-use Rattle.std.proofs.lemmas.List.Elements.{All-map}
-use Rattle.std.proofs.lemmas.List.Concat.{flat_map-append}
-use Rattle.std.proofs.lemmas.List.Folds.{flat_map-map, length-flat_map-take}
-use Rattle.std.proofs.Math.Seq.{take-append_seam, drop-append-add}
+use Rattle.gc_kept.proofs.Names.{◌≡◌, ℕ, ◌+◌, ◌-◌, ◌<◌, ◌≤◌, List, [], ◌∷◌, ◌++◌, length, map, take, drop, get_or, flat_map, refl, sym, ◌∙◌, ap, append-nil, take-add, drop-drop, arith, All, length-append, length-map, map-append, take-map, get_or-map, flat_map-append, flat_map-map, length-flat_map-take, take-append_seam, drop-append-add, IsFileAt, GarblingWith, body_of, files_of, with_trailer}
 use Rattle.gc_file.specs.declared.parts.Version.{Version}
 use Rattle.gc_file.specs.GarbledFile.{garbled_file}
-use Rattle.gc_kept.specs.Files.{IsFileAt}
-use Rattle.gc_kept.specs.Garbling.{GarblingWith}
-use Rattle.gc_kept.specs.Garblings.{body_of, files_of, with_trailer}
+use Rattle.std.proofs.lemmas.List.{map_more as map_prefix}
 
 -- Things in a list, each of which has something, as a garbling its file. This one is at a place.
 module _ {X Y : Type 0} (of : X → Y) (xs : List X) (i : ℕ) (d x : X) (within : i < length xs)
@@ -20,36 +12,24 @@ module _ {X Y : Type 0} (of : X → Y) (xs : List X) (i : ℕ) (d x : X) (within
 
   -- One more thing has its own,
   pub map_more : take (i + 1) (map of xs) ≡ take i (map of xs) ++ of x ∷ []
-  map_more =
-      rw (
-        take-map of (i + 1) xs,
-        take_more xs i d within,
-        ← at,
-        map-append of (take i xs) (x ∷ []),
-        ← take-map of i xs,
-      ) refl
+  map_more = rw (take-map of (i + 1) xs, take-map of i xs, at) (map_prefix of xs i d within)
 
   module _ (P : Y → Type 0) where
     -- and is one of all.
     pub one_of : All P (map of xs) → P (of x)
-    one_of all = rw (map_at (of x)) at (all i (of x) (omega (arith, within, length-map xs of)))
+    one_of all = rw (map_at (of x)) at (all i (of x) (omega (arith, length-map xs of)))
 
   module _ {Z : Type 0} (bytes_in : Y → List Z) where
     -- whose bytes come after those of the things before it,
     pub bytes_more : flat_map bytes_in (take (i + 1) (map of xs))
         ≡ flat_map bytes_in (take i (map of xs)) ++ bytes_in (of x)
     bytes_more =
-        rw (
-          map_more,
-          flat_map-append bytes_in (take i (map of xs)) (of x ∷ []),
-          append-nil (bytes_in (of x)),
-        ) refl
+        rw (map_more, flat_map-append bytes_in (take i (map of xs)), append-nil (bytes_in (of x)))
+        refl
 
     pub count_more : length (flat_map bytes_in (take (i + 1) (map of xs)))
         ≡ length (flat_map bytes_in (take i (map of xs))) + length (bytes_in (of x))
-    count_more =
-        ap length bytes_more
-        ∙ length-append (flat_map bytes_in (take i (map of xs))) (bytes_in (of x))
+    count_more = rw bytes_more (length-append _ (bytes_in (of x)))
 
     -- and are among the bytes of all.
     pub count_within : length (flat_map bytes_in (take i (map of xs))) + length (bytes_in (of x))
@@ -58,21 +38,13 @@ module _ {X Y : Type 0} (of : X → Y) (xs : List X) (i : ℕ) (d x : X) (within
         rw (take-map of i xs, flat_map-map bytes_in of (take i xs), flat_map-map bytes_in of xs, at)
         (length-flat_map-take (λ y. bytes_in (of y)) xs i d within)
 
--- What holds of all that things have holds of each thing.
-pub all_of : {X Y : Type 0} (of : X → Y) (xs : List X) (P : Y → Type 0)
-    → All (λ x. P (of x)) xs ↔ All P (map of xs)
-all_of of xs P = (
-  All-map P of xs,
-  λ all i d within. one_of of xs i d (get_or xs i d) within refl P all,
-)
-
 -- The next group of things has its own.
 pub group_more : {X Y : Type 0} (of : X → Y) (xs : List X) (next end : ℕ) → next ≤ end
     → map of (take next xs) ++ map of (take (end - next) (drop next xs)) ≡ map of (take end xs)
 group_more of xs next end up =
-    let whole : end ≡ next + (end - next) = omega (arith, up) in
-    sym (ap (λ n. map of (take n xs)) whole ∙ ap (map of) (take-add next (end - next) xs)
-    ∙ map-append of (take next xs) (take (end - next) (drop next xs)))
+    let whole : end ≡ next + (end - next) = omega arith in
+    sym (ap (λ n. map of (take n xs)) whole
+    ∙ rw (take-add next (end - next) xs, map-append of (take next xs)) refl)
 
 -- A piece is written after what is at the front of a buffer.
 pub put_after : (done piece old mid new : List ℕ) (place : ℕ) → place ≡ length done

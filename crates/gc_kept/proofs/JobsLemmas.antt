@@ -1,13 +1,6 @@
 -- The bits of a list of jobs.
-use Rattle.std.proofs.Common.{◌≡◌, ℕ, ◌+◌, ◌<◌, ◌≤◌, Bool, List, [], ◌∷◌, length, map, take, get_or, slice_get, flat_map, Some, refl, sym, ◌∙◌, ap, arith}
-use Rattle.std.specs.List.{sum}
+use Rattle.gc_kept.proofs.Names.{◌≡◌, ℕ, ◌+◌, ◌<◌, ◌≤◌, Bool, List, [], ◌∷◌, length, map, take, get_or, slice_get, flat_map, Some, refl, sym, ◌∙◌, ap, arith, sum, sum-map, sum_by_more, sum_by_more_le, get_or_from_slice_get, slice_get_read, slice_get_within, slice_get-map, output_wires, JobParts, AreBeside, AreEvaluated, AreAllEvaluated, outputs_of}
 use Rattle.std.proofs.lemmas.List.Concat.{length-flat_map}
-use Rattle.std.proofs.lemmas.List.Sums.{sum-map, sum_by_more, sum_by_more_le}
-use Rattle.std.proofs.lemmas.Option.{get_or_from_slice_get, slice_get_read, slice_get_within, slice_get-map}
-use Rattle.gc_netlist.specs.Circuit.{output_wires}
-use Rattle.gc_job.specs.Job.{JobParts}
-use Rattle.gc_job.specs.Jobs.{AreBeside, AreEvaluated}
-use Rattle.gc_kept.specs.Jobs.{AreAllEvaluated, outputs_of}
 
 -- The job at a place of a list of things that have jobs.
 pub job_at : {X : Type 0} (xs : List X) (job_in : X → JobParts) (k : ℕ) (x : X) → k < length xs
@@ -31,8 +24,7 @@ none_evaluated [] buffer none = record {
   evaluated = record {
     count = refl;
     lengths = refl;
-    each = λ k job bits at found.
-        absurd (omega (arith, slice_get_within [] k job at));
+    each = λ k job bits at found. absurd (cc);
   };
   buffer = refl;
 }
@@ -43,19 +35,14 @@ module _ (jobs : List JobParts) where
   pub outputs_next : (n : ℕ) (job : JobParts) → slice_get jobs n ≡ Some job
       → outputs_of (take (n + 1) jobs) ≡ outputs_of (take n jobs) + output_wires job.circuit
   outputs_next n job at =
-      sum_by_more (λ job. output_wires job.circuit) jobs n job (slice_get_within jobs n job at)
-      ∙ ap (λ (j : JobParts). outputs_of (take n jobs) + output_wires j.circuit)
-      (get_or_from_slice_get jobs n job job at)
+      rw (get_or_from_slice_get jobs n job job at) at
+      (sum_by_more (λ job. output_wires job.circuit) jobs n job (slice_get_within jobs n job at))
 
   pub outputs_within : (n : ℕ) (job : JobParts) → slice_get jobs n ≡ Some job
       → outputs_of (take n jobs) + output_wires job.circuit ≤ outputs_of jobs
   outputs_within n job at =
-      omega (
-        arith,
-        sum_by_more_le (λ job. output_wires job.circuit) jobs n job
-            (slice_get_within jobs n job at),
-        ap (λ (j : JobParts). output_wires j.circuit) (get_or_from_slice_get jobs n job job at),
-      )
+      rw (get_or_from_slice_get jobs n job job at) at
+      (sum_by_more_le (λ job. output_wires job.circuit) jobs n job (slice_get_within jobs n job at))
 
   -- All bits together are one for each of them.
   pub length-all : (each : List (List Bool)) → AreEvaluated jobs each

@@ -1,8 +1,7 @@
+pub mod Names
 pub mod FileLemmas
 pub mod JobsLemmas
 pub mod OutcomeLemmas
-pub mod PlainLemmas
-pub mod RoomLemmas
 mod PieceLemmas
 mod LabelFileLemmas
 mod ManyLemmas

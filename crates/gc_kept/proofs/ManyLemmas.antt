@@ -1,8 +1,5 @@
 -- Results of a list of things, one for each in order.
-use Rattle.std.proofs.Common.{◌≡◌, ℕ, ◌+◌, ◌*◌, ◌<◌, List, [], ◌∷◌, ◌++◌, length, take, get_or, arith}
-use Rattle.std.specs.List.{AllZip}
-use Rattle.std.proofs.lemmas.List.{take_more}
-use Rattle.std.proofs.lemmas.Slice.Zip.{all_zipped_more}
+use Rattle.gc_kept.proofs.Names.{◌≡◌, ℕ, ◌+◌, ◌*◌, ◌<◌, List, [], ◌∷◌, ◌++◌, length, take, get_or, arith, AllZip, take_more, all_zipped_more}
 
 module _ {A B : Type 0} (R : A → B → Type 0) (xs : List A) where
   -- One more,
@@ -18,5 +15,5 @@ module _ {A B : Type 0} (R : A → B → Type 0) (xs : List A) where
       → AllZip R (take (2 * (i + 1)) xs) ((ys ++ y ∷ []) ++ y' ∷ [])
   two_more ys i d x x' y y' within is is' before holds holds' =
       let place : 2 * (i + 1) ≡ 2 * i + 1 + 1 = omega arith in
-      let one = all_more ys (2 * i) d x y (omega (arith, within)) is before holds in
-      rw place (all_more (ys ++ y ∷ []) (2 * i + 1) d x' y' within is' one holds')
+      rw place (all_more (ys ++ y ∷ []) (2 * i + 1) d x' y' within is'
+      (all_more ys (2 * i) d x y (omega arith) is before holds) holds')

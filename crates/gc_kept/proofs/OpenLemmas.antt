@@ -1,21 +1,8 @@
 -- Labels that are opened.
-use Rattle.std.proofs.Common.{◌≡◌, ℕ, zero, suc, ◌+◌, ◌*◌, ◌<◌, ◌≤◌, Bool, true, false, not, List, [], ◌∷◌, length, take, drop, get_or, slice_get, Some, refl, sym, ap, ◌∙◌, arith}
-use Rattle.std.specs.List.{flat_map, slice_index}
+use Rattle.gc_kept.proofs.Names.{◌≡◌, ℕ, zero, suc, ◌+◌, ◌*◌, ◌<◌, ◌≤◌, Bool, true, false, not, List, [], ◌∷◌, length, take, drop, get_or, slice_get, Some, sym, ap, ◌∙◌, arith, flat_map, slice_index, drop-append-add, get_or_default, get_or-take, get_or-drop, slice_get-get_or, slice_get_within, colour, bytes_of_label, label_of_bytes, length-bytes_of_label, label_of_bytes-bytes_of_label, encode, encoded_with, items_from, items_spelled, label_spelling, take_at, length-flat_map, AreLabels, HasWrongLabel}
 use Rattle.std.proofs.Math.Bool.{beq}
-use Rattle.std.proofs.Math.Seq.{drop-append-add}
-use Rattle.std.proofs.lemmas.List.{get_or_default, get_or-take, get_or-drop}
-use Rattle.std.proofs.lemmas.Option.{slice_get-get_or, slice_get_within}
 use Rattle.gc_circuit.specs.Meaning.{xor}
-use Rattle.gc_label.specs.Label.{colour, bytes_of_label, label_of_bytes}
-use Rattle.gc_label.proofs.LabelLemmas.{length-bytes_of_label, label_of_bytes-bytes_of_label}
-use Rattle.gc_half.specs.Evaluation.{encode}
 use Rattle.gc_half.proofs.HalfGateLaw.{colour-encode}
-use Rattle.gc_file.specs.LabelFile.{encoded_with}
-use Rattle.gc_file.proofs.ItemLemmas.{items_from, items_spelled, label_spelling}
-use Rattle.gc_file.proofs.Names.{take_at}
-use Rattle.gc_file.proofs.SizeLemmas.{length-flat_map}
-use Rattle.gc_kept.specs.Labels.{AreLabels}
-use Rattle.gc_kept.specs.Opening.{HasWrongLabel}
 
 -- The bytes of the label at a place.
 piece_at : (labels : List ℕ) (i : ℕ) → i < length labels
@@ -27,9 +14,8 @@ piece_at (label ∷ labels) zero within =
 piece_at (label ∷ labels) (suc i) within =
     let place : 16 * suc i ≡ length (bytes_of_label label) + 16 * i =
     omega (arith, length-bytes_of_label label) in
-    ap (take 16) (ap (λ n. drop n (flat_map bytes_of_label (label ∷ labels))) place
-    ∙ drop-append-add (bytes_of_label label) (flat_map bytes_of_label labels) (16 * i))
-    ∙ piece_at labels i (omega arith)
+    rw (place, drop-append-add (bytes_of_label label) (flat_map bytes_of_label labels) (16 * i))
+    (piece_at labels i (omega arith))
 
 -- There are 16 bytes for each label,
 pub length-are : (bytes labels : List ℕ) → AreLabels bytes labels
@@ -51,10 +37,11 @@ pub label_read : (bytes labels : List ℕ) (i : ℕ) → AreLabels bytes labels
     → slice_get labels i ≡ Some (label_of_bytes (take 16 (drop (16 * i) bytes)))
 label_read bytes labels i are room =
     let within : i < length labels = omega (arith, length-are bytes labels are) in
-    let back = label_of_bytes-bytes_of_label (get_or labels i 0) (are.each i 0 within) in
-    slice_get-get_or labels i 0 within
-    ∙ ap Some (sym (ap label_of_bytes (ap (λ b. take 16 (drop (16 * i) b)) are.spelled
-    ∙ piece_at labels i within) ∙ back))
+    rw (
+      are.spelled,
+      piece_at labels i within,
+      label_of_bytes-bytes_of_label (get_or labels i 0) (are.each i 0 within),
+    ) (slice_get-get_or labels i 0 within)
 
 -- The colours of a label and of the zero label give the bit.
 pub bit_back : (offset zero_label label : ℕ) (bit : Bool) → colour offset ≡ true
@@ -64,10 +51,7 @@ bit_back offset zero_label label bit odd is =
     (ap colour is ∙ colour-encode offset zero_label bit odd)
   where
     cases : (x c l : Bool) → l ≡ xor x c → not (beq l c) ≡ x
-    cases true true l e = rw e refl
-    cases true false l e = rw e refl
-    cases false true l e = rw e refl
-    cases false false l e = rw e refl
+    cases x c l e = grind arith
 
 module _ (offset : ℕ) (zero_label : ℕ → ℕ) where
   -- The label at a place stands for the bit there.
@@ -91,7 +75,7 @@ wrong_among offset all zeros first count bytes is long w =
     let many = length-are bytes w.labels w.labels_are in
     let place : 0 + w.place ≡ w.place = omega arith in
     let zero : slice_index zeros (0 + w.place) ≡ slice_index all (first + w.place) =
-    rw (place, is) (get_or-take count (drop first all) w.place 0 (omega (arith, within, many, long))
+    rw (place, is) (get_or-take count (drop first all) w.place 0 (omega arith)
     ∙ get_or-drop first all w.place 0) in
     record {
       labels = w.labels;

@@ -1,5 +1,4 @@
-use Rattle.std.proofs.Common.{◌≡◌, map, take}
-use Rattle.gc_netlist.specs.Spelling.{bit_number}
+use Rattle.gc_kept.proofs.Names.{◌≡◌, map, take, bit_number}
 use Rattle.gc_kept.proofs.bits.put_bits.Given as goal
 
 abbrev pub invariant-loop-i : goal.invariant-loop-i

@@ -1,11 +1,5 @@
-use Rattle.std.proofs.Common.{◌≡◌, ◌≢◌, ℕ, ◌+◌, ◌<◌, ◌++◌, ◌&&◌, Bool, true, false, List, [], ◌∷◌, length, map, take, get_or, inl, inr, arith, rules, nat_eq, nat_lt}
-use Rattle.std.proofs.lemmas.Bool.{cases_Bool}
-use Rattle.std.proofs.lemmas.Bool.Decides.{nat_tests}
+use Rattle.gc_kept.proofs.Names.{and_parts, and_cases, ◌≡◌, ◌≢◌, ℕ, ◌+◌, ◌<◌, ◌++◌, Bool, true, false, List, [], ◌∷◌, length, map, take, get_or, inl, inr, arith, rules, nat_eq, nat_lt, nat_tests, take_more, slice_get-get_or, bit_number}
 use Rattle.std.proofs.lemmas.Grind.{common_steps}
-use Rattle.std.proofs.lemmas.List.{take_more}
-use Rattle.std.proofs.lemmas.Option.{slice_get-get_or}
-use Rattle.gc_netlist.specs.Spelling.{bit_number}
-use Rattle.gc_kept.proofs.PieceLemmas.{and_true}
 use Rattle.gc_kept.proofs.bits.read_bits.Goals as goal
 
 -- A byte below 2 is the number of its bit.
@@ -36,15 +30,15 @@ loop-byte-preserved c =
     record {
       count = rw items (grind (arith, common_steps));
       bits = λ all.
-          let parts = and_true c.loop-byte.are_bits (nat_lt (get_or bytes i 0) 2) all in
+          let parts = and_parts c.loop-byte.are_bits (nat_lt (get_or bytes i 0) 2) all in
           rw items (more bytes c.loop-byte.bits.items i inside parts.1 (before.bits parts.0));
-      bad = λ some. elim (cases_Bool c.loop-byte.are_bits) [
-        | inl all ↦ record {
+      bad = λ some. elim (and_cases c.loop-byte.are_bits (nat_lt (get_or bytes i 0) 2) some) [
+        | inl already ↦ before.bad already
+        | inr here ↦ record {
           place = i;
           byte = get_or bytes i 0;
           at = slice_get-get_or bytes i 0 inside;
-          bad = of_none (get_or bytes i 0) (grind arith);
+          bad = of_none (get_or bytes i 0) here;
         }
-        | inr already ↦ before.bad already
       ];
     }

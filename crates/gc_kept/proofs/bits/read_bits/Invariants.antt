@@ -1,5 +1,4 @@
-use Rattle.std.proofs.Common.{◌≡◌, true, false, length, map, take}
-use Rattle.gc_netlist.specs.Spelling.{bit_number}
+use Rattle.gc_kept.proofs.Names.{◌≡◌, true, false, length, map, take, bit_number}
 use Rattle.gc_kept.specs.Bits.{HasBadDigit}
 use Rattle.gc_kept.proofs.bits.read_bits.Given as goal
 

@@ -1,6 +1,4 @@
-use Rattle.std.proofs.Common.{refl, arith}
-use Rattle.std.proofs.lemmas.Bool.Decides.{nat_tests}
-use Rattle.gc_audit.proofs.LabelsLemmas.{found_at}
+use Rattle.gc_kept.proofs.Names.{refl, arith, nat_tests, found_at}
 use Rattle.gc_kept.proofs.circuit.width_of.Goals as goal
 
 pub returns-in-Some-clause-ok : goal.returns-in-Some-clause-ok

@@ -1,10 +1,5 @@
-use Rattle.std.proofs.Common.{◌≡◌, ℕ, Result, length, map, take, drop, slice_get, Some}
+use Rattle.gc_kept.proofs.Names.{◌≡◌, ℕ, Result, length, map, take, drop, slice_get, Some, JobParts, AreKnown, KeptFault, IsOutcome, part_for, outputs_of}
 use Rattle.std.specs.Vec.{vec_len, vec_capacity}
-use Rattle.gc_job.specs.Job.{JobParts}
-use Rattle.gc_job.specs.Jobs.{AreKnown}
-use Rattle.gc_kept.specs.declared.fault.KeptFault.{KeptFault}
-use Rattle.gc_kept.specs.Each.{IsOutcome, part_for}
-use Rattle.gc_kept.specs.Jobs.{outputs_of}
 use Rattle.gc_kept.proofs.each.evaluate_each.Given as goal
 
 abbrev pub invariant-loop-i : goal.invariant-loop-i

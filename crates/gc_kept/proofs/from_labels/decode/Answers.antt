@@ -1,9 +1,11 @@
 use Rattle.std.proofs.Common.{◌≡◌, length, sym, ap, arith}
 use Rattle.gc_kept.proofs.PieceLemmas.{length-labels, length-decoded}
+use Rattle.gc_kept.proofs.from_labels.decode.Goals.{After-deref-2}
 use Rattle.gc_kept.proofs.from_labels.decode.Goals as goal
 
-pub decoded-requires : goal.decoded-requires
-decoded-requires c =
+-- There are as many labels as decode bits.
+many : (c : After-deref-2) → length c.deref.result.now ≡ length c.deref-2.result.now
+many c =
     omega (
       arith,
       ap length c.deref.ensures.value,
@@ -12,19 +14,14 @@ decoded-requires c =
       length-labels c.in-Ok.labels.items c.args.labels.now c.in-Ok.ensures.bytes,
     )
 
+pub decoded-requires : goal.decoded-requires
+decoded-requires c = many (goal.at.decoded-requires c).After-deref-2
+
 pub write_bits-requires : goal.write_bits-requires
 write_bits-requires c =
-    let same : length c.deref.result.now ≡ length c.deref-2.result.now =
+    let same = many (goal.at.write_bits-requires c).After-deref-2 in
     omega (
       arith,
-      ap length c.deref.ensures.value,
-      ap length c.deref-2.ensures.value,
-      c.in_ok-decode_bits.ensures.count,
-      length-labels c.in-Ok.labels.items c.args.labels.now c.in-Ok.ensures.bytes,
-    ) in
-    omega (
-      arith,
-      same,
       length-decoded c.deref.result.now c.deref-2.result.now same,
       c.in_ok-has_room.ensures.ok,
       ap length c.in-Ok-decoded.ensures,
@@ -34,23 +31,17 @@ write_bits-requires c =
     )
 
 pub returns-clause-ok : goal.returns-clause-ok
-returns-clause-ok c =
-    let bits = c.in_ok-decode_bits.decode_bits.items in
-    let active = c.in-Ok.labels.items in
-    record {
-      active = active;
-      labels_are = record { spelled = sym c.in-Ok.ensures.bytes; each = c.in-Ok.ensures.labels };
-      bits = bits;
-      decode_bits_are = c.in_ok-decode_bits.ensures.bytes;
-      count = omega (
-        arith,
-        c.in_ok-decode_bits.ensures.count,
-        length-labels active c.args.labels.now c.in-Ok.ensures.bytes,
-      );
-      buffer = rw (
-        c.deref-3.ensures.value,
-        c.in-Ok-decoded.ensures,
-        c.deref.ensures.value,
-        c.deref-2.ensures.value,
-      ) at c.write_bits.ensures;
-    }
+returns-clause-ok c = record {
+  active = c.in-Ok.labels.items;
+  labels_are = record { spelled = sym c.in-Ok.ensures.bytes; each = c.in-Ok.ensures.labels };
+  bits = c.in_ok-decode_bits.decode_bits.items;
+  decode_bits_are = c.in_ok-decode_bits.ensures.bytes;
+  count = rw (c.deref.ensures.value, c.deref-2.ensures.value) at
+      (many (goal.at.returns-clause-ok c).After-deref-2);
+  buffer = rw (
+    c.deref-3.ensures.value,
+    c.in-Ok-decoded.ensures,
+    c.deref.ensures.value,
+    c.deref-2.ensures.value,
+  ) at c.write_bits.ensures;
+}

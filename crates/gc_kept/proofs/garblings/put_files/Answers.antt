@@ -1,84 +1,55 @@
-use Rattle.std.proofs.Common.{◌≡◌, ◌∙◌, ◌++◌, ℕ, List, Bor, [], flat_map, get_or, length, map, take, append_assoc, refl, sym, ap, arith, subst}
-use Rattle.std.proofs.lemmas.List.{length-append, get_or-map}
-use Rattle.sha2.specs.Sha256.{sha256}
-use Rattle.gc_kept.specs.Files.{IsFileAt}
-use Rattle.gc_kept.specs.Garblings.{with_trailer}
-use Rattle.gc_kept.proofs.GarblingsLemmas.{bytes_more, count_more, count_within, put_after}
+use Rattle.gc_kept.proofs.Names.{◌≡◌, ◌++◌, ℕ, List, Bor, [], flat_map, get_or, length, map, take, append_assoc, refl, ap, arith, length-append, get_or-map, sha256, with_trailer, ◌+◌, ◌<◌, ◌≤◌}
+use Rattle.gc_kept.proofs.GarblingsLemmas.{bytes_more, count_within, put_after}
 use Rattle.gc_kept.proofs.garblings.put_files.Goals as goal
+
+abbrev none : Bor (List ℕ)
+none = record { ref_ptr = (0, 0); now = [] }
+
+module _ (bodies : List (Bor (List ℕ))) (i : ℕ) (inside : i < length bodies) where
+  abbrev body : List ℕ
+  body = (get_or bodies i none).now
+
+  -- There is room for the body at a place and its trailer,
+  fits : length (flat_map with_trailer (take i (map (λ b. b.now) bodies)))
+      + (length body + length (sha256 body))
+      ≤ length (flat_map with_trailer (map (λ b. b.now) bodies))
+  fits = rw length-append at (count_within (λ b. b.now) bodies i none _ inside refl with_trailer)
+
+  -- which is its digest.
+  trailer : (trailers : List (List ℕ)) → trailers ≡ map (λ b. sha256 b.now) bodies
+      → get_or trailers i [] ≡ sha256 body
+  trailer trailers are = rw are (get_or-map (λ b. sha256 b.now) bodies i none [] inside)
 
 pub put-trailer_place-requires : goal.put-trailer_place-requires
 put-trailer_place-requires c =
-    let l = c.loop-i in
-    let bodies = c.args.bodies.now in
-    let none : Bor (List ℕ) = record { ref_ptr = (0, 0); now = [] } in
-    let body = (get_or bodies l.i none).now in
-    let within = count_within (λ b. b.now) bodies l.i none (get_or bodies l.i none)
-    c.loop-i-test.true refl with_trailer in
-    omega (
-      arith,
-      within,
-      length-append body (sha256 body),
-      l.invariant.place,
-      l.invariant.count,
-      c.requires.room,
-    )
+    omega (arith, fits c.args.bodies.now c.loop-i.i c.loop-i-test.true)
 
 pub put-place-requires : goal.put-place-requires
 put-place-requires c =
-    let l = c.loop-i in
     let bodies = c.args.bodies.now in
-    let none : Bor (List ℕ) = record { ref_ptr = (0, 0); now = [] } in
-    let body = (get_or bodies l.i none).now in
-    let within = count_within (λ b. b.now) bodies l.i none (get_or bodies l.i none)
-    c.loop-i-test.true refl with_trailer in
-    let trailer : get_or c.args.trailers.now l.i [] ≡ sha256 body =
-    ap (λ ts. get_or ts l.i []) c.requires.trailers
-    ∙ get_or-map (λ b. sha256 b.now) bodies l.i none [] c.loop-i-test.true in
+    let inside = c.loop-i-test.true in
     omega (
       arith,
-      within,
-      length-append body (sha256 body),
-      ap length trailer,
-      l.invariant.place,
-      l.invariant.count,
-      c.requires.room,
-      c.put-trailer_place.ensures.end,
-      c.put-trailer_place.ensures.count,
+      fits bodies c.loop-i.i inside,
+      ap length (trailer bodies c.loop-i.i inside c.args.trailers.now c.requires.trailers),
     )
 
 pub loop-i-preserved : goal.loop-i-preserved
 loop-i-preserved c =
     let l = c.loop-i in
     let bodies = c.args.bodies.now in
-    let none : Bor (List ℕ) = record { ref_ptr = (0, 0); now = [] } in
+    let inside = c.loop-i-test.true in
     let body = (get_or bodies l.i none).now in
-    let more = bytes_more (λ b. b.now) bodies l.i none (get_or bodies l.i none) c.loop-i-test.true
-    refl with_trailer in
-    let count = count_more (λ b. b.now) bodies l.i none (get_or bodies l.i none)
-    c.loop-i-test.true refl with_trailer in
-    let trailer : get_or c.args.trailers.now l.i [] ≡ sha256 body =
-    ap (λ ts. get_or ts l.i []) c.requires.trailers
-    ∙ get_or-map (λ b. sha256 b.now) bodies l.i none [] c.loop-i-test.true in
+    let digest = trailer bodies l.i inside c.args.trailers.now c.requires.trailers in
     let done = flat_map with_trailer (take l.i (map (λ b. b.now) bodies)) in
-    let one = put_after done body c.args.files.now l.files c.put-trailer_place.new.buffer l.place
-    l.invariant.place l.invariant.done c.put-trailer_place.ensures.bytes in
-    let place : c.put-trailer_place.result ≡ length (done ++ body) =
-    omega (arith, c.put-trailer_place.ensures.end, l.invariant.place, length-append done body) in
-    let two = put_after (done ++ body) (get_or c.args.trailers.now l.i []) c.args.files.now
-    c.put-trailer_place.new.buffer c.put-place.new.buffer c.put-trailer_place.result
-    place one c.put-place.ensures.bytes in
+    let more = bytes_more (λ b. b.now) bodies l.i none _ inside refl with_trailer in
+    let place : c.put-trailer_place.result ≡ length (done ++ body) = rw length-append (omega arith) in
     record {
-      done = subst (λ file. IsFileAt file c.args.files.now c.put-place.new.buffer)
-          (ap (λ t. done ++ body ++ t) trailer ∙ append_assoc done body (sha256 body) ∙ sym more)
-          two;
-      place = omega (
-        arith,
-        c.put-place.ensures.end,
-        c.put-trailer_place.ensures.end,
-        ap length trailer,
-        l.invariant.place,
-        count,
-        length-append body (sha256 body),
-      );
-      count = c.put-place.ensures.count ∙ c.put-trailer_place.ensures.count ∙ l.invariant.count;
+      done = rw (more, ← append_assoc done body (sha256 body), ← digest)
+          (put_after (done ++ body) _ _ _ _ _ place
+          (put_after done body _ l.files _ l.place l.invariant.place l.invariant.done
+          c.put-trailer_place.ensures.bytes)
+          c.put-place.ensures.bytes);
+      place = rw (more, length-append, length-append) (omega (arith, ap length digest));
+      count = omega arith;
     }

@@ -1,6 +1,4 @@
-use Rattle.std.proofs.Common.{◌≡◌, flat_map, length, map, take}
-use Rattle.gc_kept.specs.Files.{IsFileAt}
-use Rattle.gc_kept.specs.Garblings.{with_trailer}
+use Rattle.gc_kept.proofs.Names.{◌≡◌, flat_map, length, map, take, IsFileAt, with_trailer}
 use Rattle.gc_kept.proofs.garblings.put_files.Given as goal
 
 abbrev pub invariant-loop-i : goal.invariant-loop-i

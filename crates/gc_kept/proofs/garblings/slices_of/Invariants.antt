@@ -3,4 +3,4 @@ use Rattle.gc_kept.proofs.garblings.slices_of.Given as goal
 
 abbrev pub invariant-loop-vector : goal.invariant-loop-vector
 invariant-loop-vector l =
-    map (λ s. s.now) l.slices.items ≡ take l.vector-index (map (λ v. v.items) l.vectors)
+    map (λ s. s.now) l.slices.items ≡ map (λ v. v.items) (take l.vector-index l.vectors)

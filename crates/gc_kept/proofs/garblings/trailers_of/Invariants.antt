@@ -1,5 +1,4 @@
-use Rattle.std.proofs.Common.{◌≡◌, ◌-◌, ◌≤◌, length, map, take}
-use Rattle.sha2.specs.Sha256.{sha256}
+use Rattle.gc_kept.proofs.Names.{◌≡◌, ◌-◌, ◌≤◌, length, map, take, sha256}
 use Rattle.gc_kept.proofs.garblings.trailers_of.Given as goal
 
 abbrev pub invariant-loop-next : goal.invariant-loop-next

@@ -1,5 +1,4 @@
-use Rattle.std.proofs.Common.{◌-◌, ◌<◌, ◌≤◌, map}
-use Rattle.gc_job.specs.Jobs.{AreBeside}
+use Rattle.gc_kept.proofs.Names.{◌-◌, ◌<◌, ◌≤◌, map, AreBeside}
 use Rattle.gc_kept.proofs.jobs.end_of_group.Given as goal
 
 abbrev pub invariant-loop-end : goal.invariant-loop-end

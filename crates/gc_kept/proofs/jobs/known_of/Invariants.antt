@@ -1,5 +1,4 @@
-use Rattle.std.proofs.Common.{◌≡◌, ◌-◌, ◌≤◌, length, map}
-use Rattle.gc_job.specs.Jobs.{AreKnown}
+use Rattle.gc_kept.proofs.Names.{◌≡◌, ◌-◌, ◌≤◌, length, map, AreKnown}
 use Rattle.gc_kept.proofs.jobs.known_of.Given as goal
 
 abbrev pub invariant-loop-next : goal.invariant-loop-next

@@ -1,6 +1,4 @@
-use Rattle.std.proofs.Common.{◌≡◌, ◌*◌, length, take}
-use Rattle.std.specs.List.{flat_map}
-use Rattle.gc_label.specs.Label.{bytes_of_label}
+use Rattle.gc_kept.proofs.Names.{◌≡◌, ◌*◌, length, take, flat_map, bytes_of_label}
 use Rattle.gc_kept.proofs.label_bytes.put_labels.Given as goal
 
 abbrev pub invariant-loop-i : goal.invariant-loop-i

@@ -1,6 +1,4 @@
-use Rattle.std.proofs.Common.{◌≡◌, ◌*◌, length, take}
-use Rattle.std.specs.List.{flat_map}
-use Rattle.gc_file.specs.GarbledFile.{row_bytes}
+use Rattle.gc_kept.proofs.Names.{◌≡◌, ◌*◌, length, take, flat_map, row_bytes}
 use Rattle.gc_kept.proofs.label_bytes.put_rows.Given as goal
 
 abbrev pub invariant-loop-i : goal.invariant-loop-i

@@ -1,6 +1,4 @@
-use Rattle.std.proofs.Common.{◌≡◌, length, take}
-use Rattle.std.specs.List.{slice_index}
-use Rattle.gc_file.specs.LabelFile.{encoded_with}
+use Rattle.gc_kept.proofs.Names.{◌≡◌, length, take, slice_index, encoded_with}
 use Rattle.gc_kept.proofs.label_file.encoded.Given as goal
 
 abbrev pub invariant-loop-i : goal.invariant-loop-i

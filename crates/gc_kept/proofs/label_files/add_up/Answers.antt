@@ -1,17 +1,12 @@
-use Rattle.std.proofs.Common.{arith}
-use Rattle.gc_kept.proofs.FileLemmas.{exceeds, next_left}
+use Rattle.gc_kept.proofs.Names.{sum_by_more, sum_by_more_le, arith}
 use Rattle.gc_kept.proofs.label_files.add_up.Goals as goal
 
 pub returns-then-left-length : goal.returns-then-left-length
 returns-then-left-length c =
-    let l = c.loop-length in (
-      λ is. absurd (cc),
-      λ same. absurd (exceeds c.args.lengths.now l.length-index l.left c.args.total (omega arith)
-          l.invariant (omega arith) same),
-    )
+    let l = c.loop-length in
+    let bound = sum_by_more_le (λ x. x) c.args.lengths.now l.length-index 0 (omega arith) in
+    (λ is. absurd (cc), λ same. absurd (omega arith))
 
 pub loop-length-preserved : goal.loop-length-preserved
 loop-length-preserved c =
-    let l = c.loop-length in
-    next_left c.args.lengths.now l.length-index l.left c.args.total (omega arith) l.invariant
-    (omega arith)
+    omega (arith, sum_by_more (λ x. x) c.args.lengths.now c.loop-length.length-index 0 (omega arith))

@@ -1,5 +1,4 @@
-use Rattle.std.proofs.Common.{◌≡◌, ◌+◌, take}
-use Rattle.std.specs.List.{sum}
+use Rattle.gc_kept.proofs.Names.{◌≡◌, ◌+◌, take, sum}
 use Rattle.gc_kept.proofs.label_files.add_up.Given as goal
 
 abbrev pub invariant-loop-length : goal.invariant-loop-length

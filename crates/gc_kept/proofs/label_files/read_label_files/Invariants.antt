@@ -1,7 +1,5 @@
-use Rattle.std.proofs.Common.{◌≡◌, ◌++◌, map, flat_map, take}
-use Rattle.std.specs.List.{All}
+use Rattle.gc_kept.proofs.Names.{◌≡◌, ◌++◌, map, flat_map, take, All, file_length, IsOwnFile}
 use Rattle.gc_file.specs.LabelFile.{label_file}
-use Rattle.gc_kept.specs.LabelFiles.{file_length, IsOwnFile}
 use Rattle.gc_kept.proofs.label_files.read_label_files.Given as goal
 
 abbrev pub invariant-loop-length : goal.invariant-loop-length

@@ -1,8 +1,4 @@
-use Rattle.std.proofs.Common.{◌≡◌, ℕ, Bool, List, true, false, length, take}
-use Rattle.std.specs.List.{slice_index}
-use Rattle.gc_file.specs.LabelFile.{encoded_with}
-use Rattle.gc_kept.specs.Labels.{AreLabels}
-use Rattle.gc_kept.specs.Opening.{HasWrongLabel}
+use Rattle.gc_kept.proofs.Names.{◌≡◌, ℕ, Bool, List, true, false, length, take, slice_index, encoded_with, AreLabels, HasWrongLabel}
 use Rattle.gc_kept.proofs.open.are_right.Given as goal
 
 abbrev pub invariant-loop-i : goal.invariant-loop-i

@@ -1,9 +1,4 @@
-use Rattle.std.proofs.Common.{◌≡◌, ℕ, Bool, List, true, length, map, take}
-use Rattle.std.specs.List.{slice_index}
-use Rattle.gc_netlist.specs.Spelling.{bit_number}
-use Rattle.gc_label.specs.Label.{colour}
-use Rattle.gc_file.specs.LabelFile.{encoded_with}
-use Rattle.gc_kept.specs.Labels.{AreLabels}
+use Rattle.gc_kept.proofs.Names.{◌≡◌, ℕ, Bool, List, true, length, map, take, slice_index, bit_number, colour, encoded_with, AreLabels}
 use Rattle.gc_kept.proofs.open.put_bits.Given as goal
 
 abbrev pub invariant-loop-i : goal.invariant-loop-i

@@ -1,5 +1,4 @@
-use Rattle.std.proofs.Common.{length, ap, arith}
-use Rattle.gc_netlist.specs.Circuit.{input_wires}
+use Rattle.gc_kept.proofs.Names.{length, ap, arith, input_wires}
 use Rattle.gc_kept.proofs.PieceLemmas.{length-labels}
 use Rattle.gc_kept.proofs.circuit.KeptCircuit.evaluator_on.Goals as goal
 

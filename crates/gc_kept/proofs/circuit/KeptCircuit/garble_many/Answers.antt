@@ -1,15 +1,12 @@
-use Rattle.std.proofs.Common.{◌≡◌, ◌∙◌, ◌+◌, ◌-◌, ◌*◌, ◌<◌, length, drop, [], refl, arith, length-drop, length-take}
-use Rattle.std.proofs.lemmas.List.{get_or-take, get_or-drop}
-use Rattle.gc_kept.specs.Garbling.{IsGarblingUnder}
+use Rattle.gc_kept.proofs.Names.{◌≡◌, ◌∙◌, ◌+◌, ◌-◌, ◌*◌, ◌<◌, length, drop, [], refl, arith, length-drop, length-take, get_or-take, get_or-drop, IsGarblingUnder}
 use Rattle.gc_kept.proofs.ManyLemmas.{all_more, two_more}
 use Rattle.gc_kept.proofs.circuit.KeptCircuit.garble_many.Goals as goal
 
 pub loop-i-preserved : goal.loop-i-preserved
 loop-i-preserved c =
     rw (c.in_ok-push-2.ensures.items, c.in_ok-push.ensures.items)
-    (two_more (IsGarblingUnder c.args.self.now) c.args.seeds.now c.loop-i.made.items c.loop-i.i []
-    _ _ c.in_ok-one.one c.in_ok-one.other (omega (arith, c.loop-i-test.true)) refl refl
-    c.loop-i.invariant c.in_ok-one.ensures.one c.in_ok-one.ensures.other)
+    (two_more (IsGarblingUnder c.args.self.now) c.args.seeds.now _ c.loop-i.i [] _ _ _ _ (omega arith)
+    refl refl c.loop-i.invariant c.in_ok-one.ensures.one c.in_ok-one.ensures.other)
 
 pub loop-seed-preserved : goal.loop-seed-preserved
 loop-seed-preserved c =
@@ -20,7 +17,6 @@ loop-seed-preserved c =
     let below : i < rest = omega (arith, length-drop first seeds, length-take rest (drop first seeds)) in
     let place : first + (i + 1) ≡ first + i + 1 = omega arith in
     rw (c.in_ok-push-3.ensures.items, place)
-    (all_more (IsGarblingUnder c.args.self.now) seeds c.loop-seed.made.items (first + i) [] _
-    c.in_ok-garble.field-0 (omega (arith, below))
+    (all_more (IsGarblingUnder c.args.self.now) seeds _ (first + i) [] _ _ (omega arith)
     (get_or-take rest (drop first seeds) i [] below ∙ get_or-drop first seeds i [])
     c.loop-seed.invariant c.in_ok-garble.ensures.ok)

@@ -1,6 +1,4 @@
-use Rattle.std.proofs.Common.{◌+◌, ◌*◌, take}
-use Rattle.std.specs.List.{AllZip}
-use Rattle.gc_kept.specs.Garbling.{IsGarblingUnder}
+use Rattle.gc_kept.proofs.Names.{◌+◌, ◌*◌, take, AllZip, IsGarblingUnder}
 use Rattle.gc_kept.proofs.circuit.KeptCircuit.garble_many.Given as goal
 
 abbrev pub invariant-loop-i : goal.invariant-loop-i

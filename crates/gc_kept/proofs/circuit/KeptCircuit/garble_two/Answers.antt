@@ -1,7 +1,4 @@
-use Rattle.std.proofs.Common.{◌≡◌, ◌∙◌, ℕ, refl, sym, ap}
-use Rattle.std.specs.List.{slice_index}
-use Rattle.gc_netlist.specs.Circuit.{Netlist}
-use Rattle.gc_half.specs.Garbling.{GarblingParts, IsGarbledFrom}
+use Rattle.gc_kept.proofs.Names.{◌≡◌, ◌∙◌, ℕ, refl, sym, ap, slice_index, Netlist, GarblingParts, IsGarbledFrom}
 use Rattle.gc_kept.specs.Circuit.{CircuitWith}
 use Rattle.gc_kept.proofs.circuit.KeptCircuit.garble_two.Goals as goal
 

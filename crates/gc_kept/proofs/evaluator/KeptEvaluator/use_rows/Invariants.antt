@@ -1,5 +1,4 @@
-use Rattle.std.proofs.Common.{◌≡◌, ◌-◌, ◌%◌, ◌≤◌, length, take}
-use Rattle.gc_kept.specs.Evaluator.{UsesRows}
+use Rattle.gc_kept.proofs.Names.{◌≡◌, ◌-◌, ◌%◌, ◌≤◌, length, take, UsesRows}
 use Rattle.gc_kept.proofs.evaluator.KeptEvaluator.use_rows.Given as goal
 
 abbrev pub invariant-loop-used : goal.invariant-loop-used

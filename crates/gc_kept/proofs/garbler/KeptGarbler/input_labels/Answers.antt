@@ -1,22 +1,17 @@
-use Rattle.std.proofs.Common.{◌≡◌, ◌∙◌, length, ap, arith}
-use Rattle.gc_audit.specs.Labels.{first_wire_of}
+use Rattle.gc_kept.proofs.Names.{◌≡◌, ◌∙◌, length, ap, arith, first_wire_of, on_ok_weaker, IfErr-weaker}
 use Rattle.gc_kept.proofs.GarblerLemmas.{value-given}
-use Rattle.gc_kept.proofs.OutcomeLemmas.{OnOk-map, IfErr-map}
 use Rattle.gc_kept.proofs.PieceLemmas.{value-fits}
 use Rattle.gc_kept.proofs.garbler.KeptGarbler.input_labels.Goals as goal
 
 pub labels_of-labels-requires : goal.labels_of-labels-requires
 labels_of-labels-requires c =
-    let circuit = c.self.inside.circuit.netlist in
-    let index = c.args.index in
+    let width = c.in_ok-width.width in
     omega (
       arith,
-      c.first_wire-from.ensures,
-      ap (λ n. first_wire_of n index) c.circuit.ensures.same,
+      ap (λ n. first_wire_of n c.args.index) c.circuit.ensures.same,
       ap length c.zero_labels.ensures,
-      value-fits circuit.input_widths index c.in_ok-width.width c.in_ok-width.ensures.ok,
+      value-fits c.self.inside.circuit.netlist.input_widths c.args.index width c.in_ok-width.ensures.ok,
       c.circuit.ensures.lawful.inputs_fit,
-      c.self.invariant.so_far.wires,
     )
 
 pub returns-clause-ok : goal.returns-clause-ok
@@ -27,7 +22,7 @@ returns-clause-ok c =
     let at = c.in_ok-width.ensures.ok in
     let from : c.first_wire-from.result ≡ first_wire_of circuit index =
     c.first_wire-from.ensures ∙ ap (λ n. first_wire_of n index) c.circuit.ensures.same in
-    rw (← c.self.view_is) (OnOk-map c.write_both.result (λ both. record {
+    rw (← c.self.view_is) (on_ok_weaker c.write_both.result (λ both. record {
       width = width;
       at = at;
       labels = c.labels_of-labels.result.now;
@@ -40,8 +35,7 @@ returns-clause-ok c =
 
 pub returns-clause-fault : goal.returns-clause-fault
 returns-clause-fault c =
-    rw (← c.self.view_is) (IfErr-map c.write_both.result (λ fault lacks.
-    rw lacks.0 (
+    rw (← c.self.view_is) (IfErr-weaker c.write_both.result _ _ (λ fault lacks. rw lacks.0 (
       c.in_ok-width.width,
       c.in_ok-width.ensures.ok,
       (rw c.labels_of-labels.ensures.count at lacks.1),

@@ -1,5 +1,4 @@
-use Rattle.std.proofs.Common.{◌≤◌, ◌∙◌, refl, ap, arith}
-use Rattle.gc_netlist.specs.Circuit.{and_count}
+use Rattle.gc_kept.proofs.Names.{◌∙◌, refl, ap, arith, and_count}
 use Rattle.gc_half.proofs.StreamingLemmas.{garbler-few}
 use Rattle.gc_kept.proofs.garbler.KeptGarbler.next.Goals.{else-buffer-lt-PAIR-via-then-buffer-lt-PAIR+else-not-is_whole, else-buffer-lt-PAIR-via-else-buffer-lt-PAIR}
 use Rattle.gc_kept.proofs.garbler.KeptGarbler.next.Goals as goal
@@ -7,19 +6,15 @@ use Rattle.gc_kept.proofs.garbler.KeptGarbler.next.Goals as goal
 pub returns-clause-ok : goal.returns-clause-ok
 returns-clause-ok c =
     let is = c.self.invariant in
-    let few : c.self.inside.garbler.made ≤ and_count c.self.inside.circuit.netlist =
-    garbler-few c.self.inside.circuit.netlist is.given is.rows _ is.so_far in
+    let few = garbler-few c.self.inside.circuit.netlist is.given is.rows _ is.so_far in
     record {
       makes = c.write_next.ensures.makes;
       most = c.write_next.ensures.most;
-      none = λ nothing. elim c.else-buffer-lt-PAIR.branch [
+      none = λ nothing. rw (← c.self.view_is) (elim c.else-buffer-lt-PAIR.branch [
         | else-buffer-lt-PAIR-via-then-buffer-lt-PAIR+else-not-is_whole w ↦
-            rw (← c.self.view_is)
-            (w.is_whole.ensures.0 (rw w.if-not-is_whole.false refl)
-            ∙ ap and_count w.circuit.ensures.same)
+            w.is_whole.ensures.0 (rw w.if-not-is_whole.false refl)
+            ∙ ap and_count w.circuit.ensures.same
         | else-buffer-lt-PAIR-via-else-buffer-lt-PAIR w ↦
-            let most = rw (← c.self.view_is) at c.write_next.ensures.most in
-            rw (← c.self.view_is)
-            (omega (arith, few, most, nothing, w.if-buffer-lt-PAIR.false))
-      ];
+            let most = rw (← c.self.view_is) at c.write_next.ensures.most in omega (arith, few)
+      ]);
     }

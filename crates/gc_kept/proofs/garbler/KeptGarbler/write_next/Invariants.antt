@@ -1,6 +1,4 @@
-use Rattle.std.proofs.Common.{◌-◌, ◌*◌, ◌≤◌, length}
-use Rattle.gc_netlist.specs.Circuit.{and_count}
-use Rattle.gc_kept.specs.Garbler.{MakesPiece}
+use Rattle.gc_kept.proofs.Names.{◌-◌, ◌*◌, ◌≤◌, length, and_count, MakesPiece}
 use Rattle.gc_kept.proofs.garbler.KeptGarbler.write_next.Given as goal
 
 abbrev pub invariant-loop-rows : goal.invariant-loop-rows

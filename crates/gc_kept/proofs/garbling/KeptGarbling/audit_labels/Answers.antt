@@ -1,5 +1,4 @@
-use Rattle.std.proofs.Common.{refl}
-use Rattle.std.specs.List.{slice_index}
+use Rattle.gc_kept.proofs.Names.{refl, slice_index}
 use Rattle.gc_kept.proofs.garbling.KeptGarbling.audit_labels.Goals as goal
 
 pub returns-in-Ok-clause-ok : goal.returns-in-Ok-clause-ok

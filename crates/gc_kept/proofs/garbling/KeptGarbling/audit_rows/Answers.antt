@@ -1,5 +1,4 @@
-use Rattle.std.proofs.Common.{◌≡◌, ◌*◌, length, sym, ap, arith}
-use Rattle.gc_netlist.specs.Circuit.{Netlist, and_count, output_wires}
+use Rattle.gc_kept.proofs.Names.{◌≡◌, ◌*◌, length, sym, ap, arith, and_count, output_wires}
 use Rattle.gc_kept.proofs.PieceLemmas.{length-rows, rows_spelled}
 use Rattle.gc_kept.proofs.garbling.KeptGarbling.audit_rows.Goals as goal
 
@@ -8,12 +7,7 @@ returns-clause-ok c =
     let bytes = c.args.rows.now in
     let circuit = c.circuit-circuit.ensures.same in
     let count = and_count c.self.inside.circuit.netlist in
-    let size : length bytes ≡ 32 * count = omega (
-      arith,
-      c.if-rows-and_count.false,
-      c.and_count.ensures,
-      ap (λ (n : Netlist). and_count n) circuit,
-    ) in
+    let size : length bytes ≡ 32 * count = omega (arith, ap and_count circuit) in
     let is = rows_spelled bytes count size (λ i. omega (arith, c.type_inv.rows i)) in
     rw (← c.self.view_is) (record {
       rows = is.0;
@@ -21,12 +15,7 @@ returns-clause-ok c =
       row_count = omega (arith, size, length-rows is.0 bytes (sym is.1.spelled));
       bits = c.in_ok-bits.bits.items;
       bits_are = c.in_ok-bits.ensures.bytes;
-      bit_count = omega (
-        arith,
-        c.in_ok-bits.ensures.count,
-        c.output_wires.ensures,
-        ap (λ (n : Netlist). output_wires n) circuit,
-      );
+      bit_count = omega (arith, c.in_ok-bits.ensures.count, ap output_wires circuit);
       found_rows = (rw circuit at c.audit_row_bytes.ensures is.0 is.1.spelled is.1.each);
       found_bits = (rw c.deref.ensures.value at c.audit_bits.ensures);
     })

@@ -1,29 +1,21 @@
-use Rattle.std.proofs.Common.{◌≡◌, ◌∙◌, length, take, ap, arith}
-use Rattle.std.specs.List.{slice_index, sum}
-use Rattle.std.proofs.lemmas.Result.{err_from_is_err_and}
-use Rattle.gc_file.proofs.DealLemmas.{length-encoded_with}
-use Rattle.gc_kept.specs.declared.fault.KeptFault.TheVariants.{Memory}
-use Rattle.gc_kept.specs.Garbling.{GarblingWith}
-use Rattle.gc_kept.specs.Files.{of_file}
+use Rattle.gc_kept.proofs.Names.{◌≡◌, ◌∙◌, length, take, ap, arith, slice_index, sum, length-encoded_with, Memory, GarblingWith, of_file}
+use Rattle.gc_kept.proofs.OutcomeLemmas.{if_err}
 use Rattle.gc_kept.proofs.LabelFileLemmas.{dealt_from, length-dealt}
 use Rattle.gc_kept.proofs.garbling.KeptGarbling.deal.Goals as goal
 
 pub returns-in_err-bits-clause-fault : goal.returns-in_err-bits-clause-fault
 returns-in_err-bits-clause-fault c =
-    let p = err_from_is_err_and c.from_residual.result c.from_residual.ensures.1 in
-    rw (p.1, p.2, ← c.circuit.ensures.netlist) (c.in_err-bits.ensures.fault c.args.self.now.offset
-    (slice_index c.args.self.now.garbling.zero_labels))
+    if_err _ _ c.from_residual.ensures.1
+    (rw (← c.circuit.ensures.netlist) (c.in_err-bits.ensures.fault _ _))
 
 pub returns-in_err-labels-clause-fault : goal.returns-in_err-labels-clause-fault
 returns-in_err-labels-clause-fault c =
-    let p = err_from_is_err_and c.from_residual-in_err-labels.result
-    c.from_residual-in_err-labels.ensures.1 in
-    rw (p.1, p.2) (of_file c.in_ok-bits.bits.items Memory c.in_ok-bits.ensures.bytes
+    if_err _ _ c.from_residual-in_err-labels.ensures.1 (of_file _ Memory c.in_ok-bits.ensures.bytes
     (rw c.circuit.ensures.netlist at c.in_ok-bits.ensures.width) tt)
 
 pub input_zero_labels-zero_labels-requires : goal.input_zero_labels-zero_labels-requires
 input_zero_labels-zero_labels-requires c =
-    let long : c.len.result ≡ length c.in_ok-bits.bits.items = omega (arith, c.len.ensures) in
+    let long : c.len.result ≡ length c.in_ok-bits.bits.items = omega arith in
     rw long (rw c.circuit.ensures.netlist at c.in_ok-bits.ensures.width)
 
 pub returns-clause-ok : goal.returns-clause-ok
@@ -34,7 +26,7 @@ returns-clause-ok c =
     let all = g.garbling.zero_labels in
     let zeros = c.input_zero_labels-zero_labels in
     let first = sum (take index g.circuit.input_widths) in
-    let long : c.len.result ≡ length bits = omega (arith, c.len.ensures) in
+    let long : c.len.result ≡ length bits = omega arith in
     let offset = ap (λ (it : GarblingWith). it.offset) c.self.view_is in
     let labels = c.deref-2.ensures.value
     ∙ (rw c.deref.ensures.value at c.in_ok-labels.ensures.labels)
@@ -47,7 +39,6 @@ returns-clause-ok c =
       file = (rw (labels, offset) at c.write_file.ensures.file);
       count = omega (
         arith,
-        c.write_file.ensures.size,
         ap length labels,
         length-encoded_with c.self.inside.offset (slice_index all) first bits,
         length-dealt g.circuit g.offset (slice_index all) index bits,

@@ -1,9 +1,4 @@
-use Rattle.std.proofs.Common.{◌≡◌, ◌*◌, Some, length, refl, sym, ap, subst, ◌∙◌, arith}
-use Rattle.std.specs.List.{slice_index}
-use Rattle.std.proofs.lemmas.List.{length-map}
-use Rattle.gc_file.proofs.DealLemmas.{length-encoded_with}
-use Rattle.gc_kept.specs.Garbling.{GarblingWith}
-use Rattle.gc_kept.specs.Labels.{AreLabels, first_output_of}
+use Rattle.gc_kept.proofs.Names.{◌≡◌, ◌*◌, Some, length, refl, sym, ap, ◌∙◌, arith, slice_index, length-map, length-encoded_with, GarblingWith, first_output_of}
 use Rattle.gc_kept.proofs.LabelFileLemmas.{dealt_from}
 use Rattle.gc_kept.proofs.OpenLemmas.{length-are, wrong_among}
 use Rattle.gc_kept.proofs.garbling.KeptGarbling.open.Goals as goal
@@ -11,25 +6,22 @@ use Rattle.gc_kept.proofs.garbling.KeptGarbling.open.Goals as goal
 pub returns-then-not-are_right-clause-fault : goal.returns-then-not-are_right-clause-fault
 returns-then-not-are_right-clause-fault c =
     let g = c.args.self.now in
-    let bytes = c.args.labels.now in
     let width = c.in_ok-width.width in
     let zeros = c.output_zero_labels-zero_labels in
-    let long : length bytes ≡ 16 * width =
-    c.if-labels-zero_labels.false ∙ ap (λ n. 16 * n) zeros.ensures.count in
+    let long : length c.args.labels.now ≡ 16 * width = omega arith in
     let offset = ap (λ (g : GarblingWith). g.offset) c.self.view_is in (
       width,
       (rw c.circuit.ensures.netlist at c.in_ok-width.ensures.ok),
       long,
       c.in_ok-has_room.ensures.ok,
       (wrong_among g.offset g.garbling.zero_labels zeros.result.now
-          (first_output_of g.circuit c.args.index) width bytes zeros.ensures.labels long
+          (first_output_of g.circuit c.args.index) width c.args.labels.now zeros.ensures.labels long
           (rw offset at (c.are_right.ensures.wrong c.if-not-are_right.true))),
     )
 
 pub returns-clause-ok : goal.returns-clause-ok
 returns-clause-ok c =
     let g = c.args.self.now in
-    let bytes = c.args.labels.now in
     let width = c.in_ok-width.width in
     let zeros = c.output_zero_labels-zero_labels in
     let offset = ap (λ (g : GarblingWith). g.offset) c.self.view_is in
@@ -37,9 +29,7 @@ returns-clause-ok c =
     let bits = found.0 in
     let count : length bits ≡ width = omega (
       arith,
-      length-are bytes _ found.1,
-      c.if-labels-zero_labels.false,
-      zeros.ensures.count,
+      length-are c.args.labels.now _ found.1,
       length-encoded_with g.offset (slice_index zeros.result.now) 0 bits,
     ) in
     let put = c.put_bits.ensures g.offset bits c.law_coloured.ensures found.1 in
@@ -48,6 +38,6 @@ returns-clause-ok c =
     record {
       bits = bits;
       width = (rw c.circuit.ensures.netlist at c.in_ok-width.ensures.ok) ∙ ap Some (sym count);
-      labels_are = (subst (AreLabels bytes) moved found.1);
+      labels_are = (rw moved at found.1);
       buffer = rw (put, length-map, count) refl;
     }

@@ -1,11 +1,9 @@
-use Rattle.std.proofs.Common.{ap}
-use Rattle.gc_kept.specs.Garbling.{GarblingWith}
-use Rattle.gc_kept.proofs.OutcomeLemmas.{OnOk-map, IfErr-map}
+use Rattle.gc_kept.proofs.Names.{ap, GarblingWith, on_ok_weaker, IfErr-weaker}
 use Rattle.gc_kept.proofs.garbling.KeptGarbling.output_labels.Goals as goal
 
 pub returns-clause-ok : goal.returns-clause-ok
 returns-clause-ok c =
-    OnOk-map c.write_both.result (λ both. record {
+    on_ok_weaker c.write_both.result (λ both. record {
       width = c.in_ok-width.width;
       at = (rw c.circuit.ensures.netlist at c.in_ok-width.ensures.ok);
       both = both;
@@ -15,7 +13,7 @@ returns-clause-ok c =
 
 pub returns-clause-fault : goal.returns-clause-fault
 returns-clause-fault c =
-    IfErr-map c.write_both.result (λ fault lacks. rw lacks.0 (
+    IfErr-weaker c.write_both.result _ _ (λ fault lacks. rw lacks.0 (
       c.in_ok-width.width,
       (rw c.circuit.ensures.netlist at c.in_ok-width.ensures.ok),
       (rw c.output_zero_labels.ensures.count at lacks.1),

@@ -1,6 +1,4 @@
-use Rattle.std.proofs.Common.{◌≡◌, length, map, take}
-use Rattle.gc_netlist.specs.Spelling.{bit_number}
-use Rattle.gc_half.specs.Garbling.{decode_bits_of}
+use Rattle.gc_kept.proofs.Names.{◌≡◌, length, map, take, bit_number, decode_bits_of}
 use Rattle.gc_kept.proofs.garbling.KeptGarbling.put_decode_bits.Given as goal
 
 abbrev pub invariant-loop-i : goal.invariant-loop-i
