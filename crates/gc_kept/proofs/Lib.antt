@@ -2,10 +2,10 @@ pub mod Names
 pub mod FileLemmas
 pub mod JobsLemmas
 pub mod OutcomeLemmas
-mod PieceLemmas
+pub mod PieceLemmas
 mod LabelFileLemmas
 mod ManyLemmas
-mod OpenLemmas
+pub mod OpenLemmas
 mod EachLemmas
 mod GarblingsLemmas
 pub mod StreamingLemmas

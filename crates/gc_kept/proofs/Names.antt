@@ -14,10 +14,8 @@ pub use Rattle.std.proofs.lemmas.Result.{on_ok_weaker, IfErr-weaker}
 pub use Rattle.std.proofs.lemmas.Slice.Zip.{all_zipped_more, length-zip}
 pub use Rattle.std.specs.List.{slice_index, sum, AllZip, All, range_with_len}
 pub use Rattle.gc_audit.proofs.LabelsLemmas.{encoded-more, found_at}
-pub use Rattle.gc_audit.specs.Labels.{first_wire_of}
 pub use Rattle.gc_file.proofs.DealLemmas.{encoded_with-append, length-encoded_with, first_wire-room}
 pub use Rattle.gc_file.proofs.ItemLemmas.{items_from, items_spelled, label_spelling, row_of, row_spelling}
-pub use Rattle.gc_file.proofs.LabelBytesLemmas.{length-row_bytes}
 pub use Rattle.gc_file.proofs.NumberLemmas.{length-number_bytes}
 pub use Rattle.gc_file.proofs.SizeLemmas.{length-flat_map}
 pub use Rattle.gc_file.specs.GarbledFile.{row_bytes, IsRowPair}

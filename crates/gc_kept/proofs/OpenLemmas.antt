@@ -1,8 +1,9 @@
 -- Labels that are opened.
-use Rattle.gc_kept.proofs.Names.{◌≡◌, ℕ, zero, suc, ◌+◌, ◌*◌, ◌<◌, ◌≤◌, Bool, true, false, not, List, [], ◌∷◌, length, take, drop, get_or, slice_get, Some, sym, ap, ◌∙◌, arith, flat_map, slice_index, drop-append-add, get_or_default, get_or-take, get_or-drop, slice_get-get_or, slice_get_within, colour, bytes_of_label, label_of_bytes, length-bytes_of_label, label_of_bytes-bytes_of_label, encode, encoded_with, items_from, items_spelled, label_spelling, take_at, length-flat_map, AreLabels, HasWrongLabel}
+use Rattle.gc_kept.proofs.Names.{◌≡◌, ℕ, zero, suc, ◌+◌, ◌*◌, ◌<◌, ◌≤◌, Bool, true, false, not, List, [], ◌∷◌, length, take, drop, get_or, slice_get, Some, sym, ap, ◌∙◌, arith, flat_map, slice_index, drop-append-add, get_or_default, get_or-take, get_or-drop, slice_get-get_or, slice_get_within, colour, bytes_of_label, label_of_bytes, length-bytes_of_label, label_of_bytes-bytes_of_label, encode, encoded_with, items_from, items_spelled, label_spelling, take_at, AreLabels, HasWrongLabel}
 use Rattle.std.proofs.Math.Bool.{beq}
 use Rattle.gc_circuit.specs.Meaning.{xor}
 use Rattle.gc_half.proofs.HalfGateLaw.{colour-encode}
+use Rattle.gc_kept.proofs.PieceLemmas.{length_labels}
 
 -- The bytes of the label at a place.
 piece_at : (labels : List ℕ) (i : ℕ) → i < length labels
@@ -20,8 +21,7 @@ piece_at (label ∷ labels) (suc i) within =
 -- There are 16 bytes for each label,
 pub length-are : (bytes labels : List ℕ) → AreLabels bytes labels
     → length bytes ≡ 16 * length labels
-length-are bytes labels are =
-    ap length are.spelled ∙ length-flat_map bytes_of_label 16 length-bytes_of_label labels
+length-are bytes labels are = rw are.spelled (length_labels labels)
 
 -- which they spell,
 pub labels_spelled : (bytes : List ℕ) (n : ℕ) → length bytes ≡ 16 * n

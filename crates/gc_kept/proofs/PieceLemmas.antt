@@ -1,17 +1,16 @@
 -- Pieces of bytes that are written one after another.
-use Rattle.gc_kept.proofs.Names.{map_more, ◌≡◌, ℕ, ◌+◌, ◌*◌, ◌<◌, List, ◌++◌, Bool, length, take, get_or, slice_get, Some, refl, sym, ap, ◌∙◌, append-nil, arith, ◌≤◌, drop, ◌-◌, map, set, flat_map, sum, length-map, get_or_default, drop_all, length-append, length-drop, take_more_set, bytes_of_label, RowPair, row_bytes, slice_get_within, get_or_from_slice_get, length-zip, length-bytes_of_label, decode, length-row_bytes, label_magic, number_bytes, length-flat_map, items_from, items_spelled, row_of, row_spelling, AreRows, sum_by_more_le, put_mid, bit_number, length-number_bytes}
+use Rattle.gc_kept.proofs.Names.{map_more, ◌≡◌, ℕ, ◌+◌, ◌*◌, ◌<◌, List, ◌++◌, Bool, length, take, get_or, slice_get, Some, refl, sym, append-nil, arith, ◌≤◌, drop, ◌-◌, map, set, flat_map, sum, length-map, get_or_default, drop_all, length-append, length-drop, take_more_set, bytes_of_label, RowPair, row_bytes, slice_get_within, get_or_from_slice_get, length-zip, length-bytes_of_label, decode, label_magic, number_bytes, length-flat_map, items_from, items_spelled, row_of, row_spelling, AreRows, sum_by_more_le, put_mid, bit_number, length-number_bytes}
+use Rattle.gc_file.proofs.LabelBytesLemmas.{length-row_bytes}
 use Rattle.gc_file.specs.LabelFile.{label_file}
 
--- Labels that were read are as many as their bytes say,
-pub length-labels : (labels bytes : List ℕ) → flat_map bytes_of_label labels ≡ bytes
-    → 16 * length labels ≡ length bytes
-length-labels labels bytes is =
-    sym (length-flat_map bytes_of_label 16 length-bytes_of_label labels) ∙ ap length is
+-- There are 16 bytes for each label,
+pub length_labels : (labels : List ℕ)
+    → length (flat_map bytes_of_label labels) ≡ 16 * length labels
+length_labels = length-flat_map bytes_of_label 16 length-bytes_of_label
 
--- and so are row pairs.
-pub length-rows : (rows : List RowPair) (bytes : List ℕ) → flat_map row_bytes rows ≡ bytes
-    → 32 * length rows ≡ length bytes
-length-rows rows bytes is = sym (length-flat_map row_bytes 32 length-row_bytes rows) ∙ ap length is
+-- and 32 for each row pair.
+pub length_rows : (rows : List RowPair) → length (flat_map row_bytes rows) ≡ 32 * length rows
+length_rows = length-flat_map row_bytes 32 length-row_bytes
 
 -- Bytes of a whole number of row pairs are some.
 pub rows_spelled : (bytes : List ℕ) (n : ℕ) → length bytes ≡ 32 * n
@@ -51,9 +50,9 @@ unfolding label_file
 label_file-is index n labels front count is = rw (is, count) refl
 
 -- The header has 16 bytes.
-pub length-header : (index n : ℕ)
+pub length_header : (index n : ℕ)
     → length (label_magic ++ number_bytes index ++ number_bytes n) ≡ 16
-length-header index n =
+length_header index n =
     omega (
       arith,
       length-append (number_bytes index) (number_bytes n),

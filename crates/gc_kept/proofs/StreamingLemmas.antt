@@ -1,7 +1,7 @@
 -- Pieces that follow one another.
-use Rattle.gc_kept.proofs.Names.{refl, take_rest, ◌≡◌, ℕ, ◌+◌, ◌-◌, ◌≤◌, List, ◌++◌, length, take, drop, flat_map, sym, ◌∙◌, append_assoc, drop-drop, arith, length-append, length-drop, length-take-le, flat_map-append, All-append, put_mid, GarblesPiece, EvaluatesPiece, IsRowPair, row_bytes, length-flat_map, length-row_bytes, IsFileAt, GarblerWith, MakesPiece, EvaluatorWith, UsesRows}
+use Rattle.gc_kept.proofs.Names.{refl, take_rest, ◌≡◌, ℕ, ◌+◌, ◌-◌, ◌≤◌, List, ◌++◌, length, take, drop, flat_map, sym, ◌∙◌, append_assoc, drop-drop, arith, length-append, length-drop, length-take-le, flat_map-append, All-append, put_mid, GarblesPiece, EvaluatesPiece, IsRowPair, row_bytes, IsFileAt, GarblerWith, MakesPiece, EvaluatorWith, UsesRows}
 use Rattle.gc_kept.proofs.GarblingsLemmas.{put_after}
-use Rattle.gc_kept.proofs.PieceLemmas.{put_rest}
+use Rattle.gc_kept.proofs.PieceLemmas.{put_rest, length_rows}
 
 pub length-put_rest : (n : ℕ) (buffer part : List ℕ) → n ≤ length buffer
     → length part ≡ length (take (length buffer - n) (drop n buffer))
@@ -23,9 +23,8 @@ module _ (a b d : GarblerWith) (old mid part : List ℕ) (done more : ℕ)
   pieces-written : IsFileAt (flat_map row_bytes (one.piece ++ two.piece)) old
       (put_mid done (length mid - done) mid part)
   pieces-written =
-      let done_is = one.count ∙ sym (length-flat_map row_bytes 32 length-row_bytes one.piece) in
       rw flat_map-append (put_after (flat_map row_bytes one.piece) (flat_map row_bytes two.piece) old
-      mid _ done done_is one.buffer (rw (
+      mid _ done (one.count ∙ sym (length_rows one.piece)) one.buffer (rw (
         put_rest done mid part within,
         two.buffer,
         take_rest mid done,

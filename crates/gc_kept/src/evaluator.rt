@@ -60,6 +60,7 @@ impl KeptCircuit {
 
     /// Begins to evaluate the circuit on these labels. The caller ensures that there is one for each input wire, and
     /// that `first` is one for this circuit's AND gates.
+    #[tactic(auto, using(crate::proofs::PieceLemmas::length_labels))]
     pub(crate) fn evaluator_on(
         &self,
         alloc: Global,

@@ -35,6 +35,7 @@ pub(crate) struct Given {
 impl KeptCircuit {
     /// The offset, the zero labels and the first AND gate that are given. It refuses another number of bytes (66), then
     /// an offset of colour 0 and a first AND gate whose sum with the number of AND gates is above 2^62 (60).
+    #[tactic(auto, using(crate::proofs::PieceLemmas::length_labels))]
     pub(crate) fn given(&self, alloc: Global, start: StartBytes<'_>) -> Result<Given, KeptFault>
         ensures offset { IfOk result (λ g. g.offset ≡ label_of_bytes start.entry.offset.now) }
         ensures odd { IfOk result (λ g. IsTrue (colour g.offset)) }

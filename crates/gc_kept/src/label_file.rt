@@ -22,6 +22,7 @@ use gc_label::{Label, Offset, Seed, fill_input_labels, offset};
 use std::alloc::{AllocError, Global};
 
 /// Writes the header of a label file. The caller ensures that there is room.
+#[tactic(auto, using(crate::proofs::PieceLemmas::length_header))]
 fn put_header(index: u32, width: u32, file: &mut [u8])
     requires { 16 ≤ length file.old }
     ensures header { take 16 file.new ≡ label_magic ++ number_bytes index ++ number_bytes width }

@@ -89,6 +89,7 @@ fn is_right(offset: Offset, zero_label: Label, label: Label) -> bool
 
 /// The bit that a label stands for on a wire with this zero label, where it is one of the wire's two labels: the two
 /// have different colours.
+#[tactic(auto, using(crate::proofs::OpenLemmas::bit_back))]
 fn bit_of(zero_label: Label, label: Label) -> bool
     ensures { (offset : ℕ) (bit : Bool) → IsTrue (colour offset)
         → label ≡ label_for offset zero_label bit → result ≡ bit }
@@ -97,6 +98,7 @@ fn bit_of(zero_label: Label, label: Label) -> bool
 }
 
 /// The label at a place of labels. The caller ensures that there is such a place.
+#[tactic(auto, using(crate::proofs::OpenLemmas::label_read))]
 fn label_at(labels: &[u8], place: usize) -> Label
     requires { 16 * place + 16 ≤ length labels.now }
     ensures { (all : List ℕ) → AreLabels labels.now all → slice_get all place ≡ Some result }

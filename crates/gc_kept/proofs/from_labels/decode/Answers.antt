@@ -1,34 +1,25 @@
-use Rattle.std.proofs.Common.{◌≡◌, length, sym, ap, arith}
-use Rattle.gc_kept.proofs.PieceLemmas.{length-labels, length-decoded}
+use Rattle.std.proofs.Common.{◌≡◌, length, sym, arith}
+use Rattle.gc_kept.proofs.PieceLemmas.{length_labels, length-decoded}
 use Rattle.gc_kept.proofs.from_labels.decode.Goals.{After-deref-2}
 use Rattle.gc_kept.proofs.from_labels.decode.Goals as goal
 
 -- There are as many labels as decode bits.
 many : (c : After-deref-2) → length c.deref.result.now ≡ length c.deref-2.result.now
 many c =
-    omega (
-      arith,
-      ap length c.deref.ensures.value,
-      ap length c.deref-2.ensures.value,
-      c.in_ok-decode_bits.ensures.count,
-      length-labels c.in-Ok.labels.items c.args.labels.now c.in-Ok.ensures.bytes,
-    )
+    let count = c.in_ok-decode_bits.ensures.count in
+    let bytes = c.in-Ok.ensures.bytes in
+    grind (arith, length_labels)
 
 pub decoded-requires : goal.decoded-requires
 decoded-requires c = many (goal.at.decoded-requires c).After-deref-2
 
 pub write_bits-requires : goal.write_bits-requires
 write_bits-requires c =
+    let room = c.in_ok-has_room.ensures.ok in
+    let count = c.in_ok-decode_bits.ensures.count in
     let same = many (goal.at.write_bits-requires c).After-deref-2 in
-    omega (
-      arith,
-      length-decoded c.deref.result.now c.deref-2.result.now same,
-      c.in_ok-has_room.ensures.ok,
-      ap length c.in-Ok-decoded.ensures,
-      ap length c.deref-3.ensures.value,
-      ap length c.deref.ensures.value,
-      c.in_ok-decode_bits.ensures.count,
-    )
+    let long = rw (← c.in-Ok-decoded.ensures) at (length-decoded _ _ same) in
+    grind arith
 
 pub returns-clause-ok : goal.returns-clause-ok
 returns-clause-ok c = record {

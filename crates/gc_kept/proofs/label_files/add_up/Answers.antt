@@ -1,4 +1,4 @@
-use Rattle.gc_kept.proofs.Names.{sum_by_more, sum_by_more_le, arith}
+use Rattle.gc_kept.proofs.Names.{sum_by_more_le, arith}
 use Rattle.gc_kept.proofs.label_files.add_up.Goals as goal
 
 pub returns-then-left-length : goal.returns-then-left-length
@@ -6,7 +6,3 @@ returns-then-left-length c =
     let l = c.loop-length in
     let bound = sum_by_more_le (λ x. x) c.args.lengths.now l.length-index 0 (omega arith) in
     (λ is. absurd (cc), λ same. absurd (omega arith))
-
-pub loop-length-preserved : goal.loop-length-preserved
-loop-length-preserved c =
-    omega (arith, sum_by_more (λ x. x) c.args.lengths.now c.loop-length.length-index 0 (omega arith))

@@ -9,13 +9,9 @@ returns-in_err-bits-clause-fault c =
 
 pub zero_labels-requires : goal.zero_labels-requires
 zero_labels-requires c =
-    let input = c.args.given.input in
-    omega (
-      arith,
-      ap (λ (n : Netlist). sum (take input.index n.input_widths)) c.circuit.ensures.same,
-      first_wire-room c.args.self.now.netlist c.circuit.ensures.lawful input.index
-          (length c.in_ok-bits.bits.items) c.in_ok-bits.ensures.width,
-    )
+    let room = first_wire-room c.args.self.now.netlist c.circuit.ensures.lawful
+    c.args.given.input.index _ c.in_ok-bits.ensures.width in
+    grind arith
 
 pub returns-in_err-zero_labels-clause-fault : goal.returns-in_err-zero_labels-clause-fault
 returns-in_err-zero_labels-clause-fault c =

@@ -1,6 +1,6 @@
-use Rattle.gc_kept.proofs.Names.{take_rest, take, drop, sym, ap, take-add, arith, length-drop, length-take-le, and_count}
+use Rattle.gc_kept.proofs.Names.{take_rest, take, drop, ap, take-add, arith, length-drop, length-take-le, and_count}
 use Rattle.gc_kept.proofs.StreamingLemmas.{uses-more}
-use Rattle.gc_kept.proofs.PieceLemmas.{length-rows}
+use Rattle.gc_kept.proofs.PieceLemmas.{length_rows}
 use Rattle.gc_kept.proofs.evaluator.KeptEvaluator.use_rows.Goals as goal
 
 pub use_some-used-requires : goal.use_some-used-requires
@@ -11,7 +11,7 @@ use_some-used-requires c =
     rw take_rest (record {
       left = omega (
         arith,
-        length-rows uses.piece (take l.used bytes) (sym uses.piece_is.spelled),
+        rw (← uses.piece_is.spelled) at (length_rows uses.piece),
         length-take-le l.used bytes l.invariant.within,
         ap and_count uses.circuit,
         length-drop l.used bytes,

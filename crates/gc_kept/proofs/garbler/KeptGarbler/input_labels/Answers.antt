@@ -1,18 +1,15 @@
-use Rattle.gc_kept.proofs.Names.{◌≡◌, ◌∙◌, length, ap, arith, first_wire_of, on_ok_weaker, IfErr-weaker}
+use Rattle.gc_kept.proofs.Names.{◌≡◌, ◌∙◌, ap, arith, on_ok_weaker, IfErr-weaker}
+use Rattle.gc_audit.specs.Labels.{first_wire_of}
 use Rattle.gc_kept.proofs.GarblerLemmas.{value-given}
 use Rattle.gc_kept.proofs.PieceLemmas.{value-fits}
 use Rattle.gc_kept.proofs.garbler.KeptGarbler.input_labels.Goals as goal
 
 pub labels_of-labels-requires : goal.labels_of-labels-requires
 labels_of-labels-requires c =
-    let width = c.in_ok-width.width in
-    omega (
-      arith,
-      ap (λ n. first_wire_of n c.args.index) c.circuit.ensures.same,
-      ap length c.zero_labels.ensures,
-      value-fits c.self.inside.circuit.netlist.input_widths c.args.index width c.in_ok-width.ensures.ok,
-      c.circuit.ensures.lawful.inputs_fit,
-    )
+    let fits = value-fits c.self.inside.circuit.netlist.input_widths c.args.index c.in_ok-width.width
+    c.in_ok-width.ensures.ok in
+    let lawful = c.circuit.ensures.lawful.inputs_fit in
+    grind arith
 
 pub returns-clause-ok : goal.returns-clause-ok
 returns-clause-ok c =

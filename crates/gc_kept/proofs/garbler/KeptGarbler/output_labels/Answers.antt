@@ -1,19 +1,13 @@
-use Rattle.gc_kept.proofs.Names.{◌∙◌, take, refl, ap, arith, sum, and_count, output_wires, on_ok_weaker, IfErr-weaker}
+use Rattle.gc_kept.proofs.Names.{◌∙◌, take, refl, ap, arith, sum, and_count, on_ok_weaker, IfErr-weaker}
 use Rattle.gc_kept.proofs.GarblerLemmas.{value-made}
 use Rattle.gc_kept.proofs.PieceLemmas.{value-fits}
 use Rattle.gc_kept.proofs.garbler.KeptGarbler.output_labels.Goals as goal
 
 pub labels_of-labels-requires : goal.labels_of-labels-requires
 labels_of-labels-requires c =
-    let same = c.circuit-circuit.ensures.same in
-    let width = c.in_ok-width.width in
-    omega (
-      arith,
-      ap (λ ws. sum (take c.args.index ws)) (rw same at c.output_widths.ensures),
-      ap output_wires same,
-      value-fits c.self.inside.circuit.netlist.output_widths c.args.index width
-          c.in_ok-width.ensures.ok,
-    )
+    let fits = value-fits c.self.inside.circuit.netlist.output_widths c.args.index
+    c.in_ok-width.width c.in_ok-width.ensures.ok in
+    grind arith
 
 pub returns-clause-ok : goal.returns-clause-ok
 returns-clause-ok c =

@@ -1,5 +1,5 @@
-use Rattle.gc_kept.proofs.Names.{◌≡◌, ◌*◌, length, sym, ap, arith, and_count, output_wires}
-use Rattle.gc_kept.proofs.PieceLemmas.{length-rows, rows_spelled}
+use Rattle.gc_kept.proofs.Names.{◌≡◌, ◌*◌, length, ap, arith, and_count, output_wires}
+use Rattle.gc_kept.proofs.PieceLemmas.{length_rows, rows_spelled}
 use Rattle.gc_kept.proofs.garbling.KeptGarbling.audit_rows.Goals as goal
 
 pub returns-clause-ok : goal.returns-clause-ok
@@ -12,7 +12,7 @@ returns-clause-ok c =
     rw (← c.self.view_is) (record {
       rows = is.0;
       rows_are = is.1;
-      row_count = omega (arith, size, length-rows is.0 bytes (sym is.1.spelled));
+      row_count = omega (arith, size, rw (← is.1.spelled) at (length_rows is.0));
       bits = c.in_ok-bits.bits.items;
       bits_are = c.in_ok-bits.ensures.bytes;
       bit_count = omega (arith, c.in_ok-bits.ensures.count, ap output_wires circuit);

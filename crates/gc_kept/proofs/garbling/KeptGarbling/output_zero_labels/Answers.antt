@@ -1,30 +1,20 @@
-use Rattle.gc_kept.proofs.Names.{◌≡◌, ◌∙◌, length, ap, arith, first_output_of}
+use Rattle.std.proofs.Common.{arith}
 use Rattle.gc_kept.proofs.PieceLemmas.{value-fits}
-use Rattle.gc_kept.proofs.garbling.KeptGarbling.output_zero_labels.Goals.{After-zero_labels}
 use Rattle.gc_kept.proofs.garbling.KeptGarbling.output_zero_labels.Goals as goal
-
--- The labels of the value begin at its first wire, among those of the garbling.
-from : (c : After-zero_labels) → c.first_output-from.result ≡ first_output_of c.args.self.now.circuit c.args.index
-from c =
-    c.first_output-from.ensures ∙ ap (λ n. first_output_of n c.args.index)
-    (c.circuit-2.ensures.same ∙ c.circuit.ensures.netlist)
-
-among : (c : After-zero_labels) → c.zero_labels.result.now ≡ c.args.self.now.garbling.zero_labels
-among c = rw (← c.self.view_is) c.zero_labels.ensures
 
 pub labels_of-requires : goal.labels_of-requires
 labels_of-requires c =
-    let at = (goal.at.labels_of-requires c).After-zero_labels in
+    let fits = value-fits c.args.self.now.circuit.output_widths c.args.index c.args.width c.requires in
     let lawful = rw c.circuit.ensures.netlist at c.circuit-2.ensures.lawful in
-    omega (
-      arith,
-      from at,
-      ap length (among at),
-      value-fits c.args.self.now.circuit.output_widths c.args.index c.args.width c.requires,
-      lawful.outputs_fit,
-    )
+    let room = lawful.outputs_fit in
+    grind arith
 
 pub returns-clause-labels : goal.returns-clause-labels
 returns-clause-labels c =
-    let at = (goal.at.returns-clause-labels c).After-zero_labels in
-    rw (← among at, ← from at) c.labels_of.ensures.labels
+    rw (← c.self.view_is) (rw (
+      c.zero_labels.ensures,
+      c.first_output-from.ensures,
+      c.circuit-2.ensures.same,
+      c.circuit.ensures.netlist,
+      ← c.self.view_is,
+    ) at c.labels_of.ensures.labels)
