@@ -64,8 +64,8 @@ module _ (jobs : List JobParts) where
           let k_is : k ≡ i = last.0 ∙ count in
           let job_is : job ≡ j = cc in
           let here : place + n - place ≡ n = omega arith in
-          let new_part : take n (drop place after) ≡ part =
-          rw here at (between-put_mid place n before part (place + n) (omega arith) (omega arith)) in
+          let back = between-put_mid place n before part (place + n) (omega arith) (omega arith) in
+          let new_part : take n (drop place after) ≡ part = rw here at back in
           rw (k_is, ← job_is, ← place_is, ← size, ← rest, new_part, ← last.1) is
     ]
 

@@ -1,35 +1,30 @@
 -- Lists of garblings, and their files.
-use Rattle.gc_kept.proofs.Names.{◌≡◌, ℕ, ◌+◌, ◌-◌, ◌<◌, ◌≤◌, List, [], ◌∷◌, ◌++◌, length, map, take, drop, get_or, flat_map, refl, sym, ◌∙◌, ap, append-nil, take-add, drop-drop, arith, All, length-append, length-map, map-append, take-map, get_or-map, flat_map-append, flat_map-map, length-flat_map-take, take-append_seam, drop-append-add, IsFileAt, GarblingWith, body_of, files_of, with_trailer}
+use Rattle.gc_kept.proofs.Names.{◌≡◌, ℕ, ◌+◌, ◌-◌, ◌<◌, ◌≤◌, List, ◌++◌, length, map, take, drop, get_or, flat_map, refl, sym, ◌∙◌, ap, append-nil, take-add, drop-drop, arith, All, length-append, length-map, map-append, take-map, get_or-map, flat_map-append, flat_map-map, length-flat_map-take, take-append_seam, drop-append-add, IsFileAt, GarblingWith, body_of, files_of, with_trailer, map_more}
 use Rattle.gc_file.specs.declared.parts.Version.{Version}
 use Rattle.gc_file.specs.GarbledFile.{garbled_file}
-use Rattle.std.proofs.lemmas.List.{map_more as map_prefix}
 
 -- Things in a list, each of which has something, as a garbling its file. This one is at a place.
 module _ {X Y : Type 0} (of : X → Y) (xs : List X) (i : ℕ) (d x : X) (within : i < length xs)
     (at : x ≡ get_or xs i d) where
-  pub map_at : (e : Y) → get_or (map of xs) i e ≡ of x
-  map_at e = get_or-map of xs i d e within ∙ ap of (sym at)
-
-  -- One more thing has its own,
-  pub map_more : take (i + 1) (map of xs) ≡ take i (map of xs) ++ of x ∷ []
-  map_more = rw (take-map of (i + 1) xs, take-map of i xs, at) (map_prefix of xs i d within)
-
   module _ (P : Y → Type 0) where
-    -- and is one of all.
+    -- It is one of all,
     pub one_of : All P (map of xs) → P (of x)
-    one_of all = rw (map_at (of x)) at (all i (of x) (omega (arith, length-map xs of)))
+    one_of all = rw (get_or-map of xs i d (of x) within, ← at) at
+        (all i (of x) (omega (arith, length-map xs of)))
 
   module _ {Z : Type 0} (bytes_in : Y → List Z) where
     -- whose bytes come after those of the things before it,
     pub bytes_more : flat_map bytes_in (take (i + 1) (map of xs))
         ≡ flat_map bytes_in (take i (map of xs)) ++ bytes_in (of x)
     bytes_more =
-        rw (map_more, flat_map-append bytes_in (take i (map of xs)), append-nil (bytes_in (of x)))
-        refl
-
-    pub count_more : length (flat_map bytes_in (take (i + 1) (map of xs)))
-        ≡ length (flat_map bytes_in (take i (map of xs))) + length (bytes_in (of x))
-    count_more = rw bytes_more (length-append _ (bytes_in (of x)))
+        rw (
+          take-map of (i + 1) xs,
+          take-map of i xs,
+          map_more of xs i d within,
+          ← at,
+          flat_map-append bytes_in (map of (take i xs)),
+          append-nil (bytes_in (of x)),
+        ) refl
 
     -- and are among the bytes of all.
     pub count_within : length (flat_map bytes_in (take i (map of xs))) + length (bytes_in (of x))

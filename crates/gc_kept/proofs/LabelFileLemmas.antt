@@ -57,7 +57,7 @@ module _ (offset : ℕ) where
       ≡ encoded_with offset (input_label_of seed) first bits
   dealt_under seed zeros first bits is =
       encoded_shift (slice_index zeros) (input_label_of seed) 0 first bits (λ i below.
-      rw is (get_or-map-range_with_len (input_label_of seed) first (length bits) (0 + i) (first + i) 0
+      rw is (get_or-map-range_with_len (input_label_of seed) first (length bits) (0 + i) _ 0
       (omega arith) (omega arith)))
 
   -- and from a garbling.

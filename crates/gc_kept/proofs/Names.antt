@@ -33,7 +33,7 @@ pub use Rattle.gc_kept.specs.Evaluator.{EvaluatorWith, UsesRows}
 pub use Rattle.gc_kept.specs.Files.{IsFileAt, file_of, of_file, no_value, of_bits}
 pub use Rattle.gc_kept.specs.Garbler.{GarblerWith, MakesPiece}
 pub use Rattle.gc_kept.specs.Garbling.{GarblingWith, IsGarblingUnder}
-pub use Rattle.gc_kept.specs.Garblings.{body_of, files_of, with_trailer, AreFromZero, HaveDigests}
+pub use Rattle.gc_kept.specs.Garblings.{body_of, files_of, with_trailer}
 pub use Rattle.gc_kept.specs.Jobs.{outputs_of, AreAllEvaluated}
 pub use Rattle.gc_kept.specs.LabelFiles.{file_length, IsOwnFile, HasFaultyFile}
 pub use Rattle.gc_kept.specs.Labels.{first_output_of, AreLabels, AreRows}

@@ -23,8 +23,8 @@ module _ (a b d : GarblerWith) (old mid part : List ℕ) (done more : ℕ)
   pieces-written : IsFileAt (flat_map row_bytes (one.piece ++ two.piece)) old
       (put_mid done (length mid - done) mid part)
   pieces-written =
-      rw flat_map-append (put_after (flat_map row_bytes one.piece) (flat_map row_bytes two.piece) old
-      mid _ done (one.count ∙ sym (length_rows one.piece)) one.buffer (rw (
+      rw flat_map-append (put_after (flat_map row_bytes one.piece) _ old mid _ done
+      (one.count ∙ sym (length_rows one.piece)) one.buffer (rw (
         put_rest done mid part within,
         two.buffer,
         take_rest mid done,

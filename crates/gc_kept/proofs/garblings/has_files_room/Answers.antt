@@ -4,9 +4,7 @@ use Rattle.gc_kept.proofs.garblings.has_files_room.Goals as goal
 
 pub returns-then-room-size-clause-fault : goal.returns-then-room-size-clause-fault
 returns-then-room-size-clause-fault c =
-    let gs = c.args.garblings.now in
     let it = c.garbling-item.result in
-    let i = c.loop-garbling.garbling-index in
-    let within = rw take-map at (count_within (λ g. g.now) gs i it it (omega arith) c.garbling-item.is
-    (λ g. file_of g c.args.version)) in
-    (refl, omega arith)
+    let within = count_within (λ g. g.now) c.args.garblings.now c.loop-garbling.garbling-index it it
+    (omega arith) c.garbling-item.is (λ g. file_of g c.args.version) in
+    (refl, omega (arith, rw take-map at within))

@@ -1,6 +1,5 @@
-use Rattle.gc_kept.proofs.Names.{AreFromZero, HaveDigests, All-map, Bool, List, map, get_or, ◌≡◌, ◌↔◌, IsTrue, refl, rules, All, GarblingWith}
+use Rattle.gc_kept.proofs.Names.{All-map, Bool, List, map, get_or, ◌≡◌, ◌↔◌, IsTrue, refl, rules, All, GarblingWith}
 use Rattle.gc_kept.proofs.GarblingsLemmas.{one_of}
-use Rattle.gc_kept.proofs.garblings.have_files.Goals.{After-all, After-all-2}
 use Rattle.gc_kept.proofs.garblings.have_files.Goals as goal
 
 -- A test of all garblings is one of what each is.
@@ -11,29 +10,27 @@ all_are of xs P b is = (
   λ all. is.1 (λ i d within. one_of of xs i d (get_or xs i d) within refl P all),
 )
 
-numbers : (c : After-all)
-    → IsTrue c.all.result ↔ AreFromZero (map (λ g. g.now) c.args.garblings.now)
-numbers c = all_are (λ g. g.now) _ (λ g. g.first ≡ 0) _ (search rules)
-
-digests : (c : After-all-2)
-    → IsTrue c.all-2.result ↔ HaveDigests (map (λ g. g.now) c.args.garblings.now)
-digests c = all_are (λ g. g.now) _ (λ g. IsTrue g.has_digest) _ (search rules)
-
 pub returns-then-not-all-clause-fault : goal.returns-then-not-all-clause-fault
 returns-then-not-all-clause-fault c = λ are.
-    let yes = (numbers (goal.at.returns-then-not-all-clause-fault c).After-all).1 are in absurd (cc)
+    let gs = c.args.garblings.now in
+    let yes = (all_are (λ g. g.now) gs (λ g. g.first ≡ 0) c.all.result (search rules)).1 are in
+    absurd (cc)
 
 pub returns-then-not-all-2-clause-fault : goal.returns-then-not-all-2-clause-fault
 returns-then-not-all-2-clause-fault c =
-    let at = goal.at.returns-then-not-all-2-clause-fault c in (
-      (numbers at.After-all).0 (rw c.if-not-all.false refl),
-      λ have. let yes = (digests at.After-all-2).1 have in absurd (cc),
-    )
+    let gs = c.args.garblings.now in
+    let numbers = all_are (λ g. g.now) gs (λ g. g.first ≡ 0) c.all.result (search rules) in
+    let digests = all_are (λ g. g.now) gs (λ g. IsTrue g.has_digest) c.all-2.result
+    (search rules) in
+    (numbers.0 (rw c.if-not-all.false refl), λ have. let yes = digests.1 have in absurd (cc))
 
 pub returns-clause-numbers : goal.returns-clause-numbers
 returns-clause-numbers c =
-    (numbers (goal.at.returns-clause-numbers c).After-all).0 (rw c.if-not-all.false refl)
+    (all_are (λ g. g.now) c.args.garblings.now (λ g. g.first ≡ 0) c.all.result (search rules)).0
+    (rw c.if-not-all.false refl)
 
 pub returns-clause-digests : goal.returns-clause-digests
 returns-clause-digests c =
-    (digests (goal.at.returns-clause-digests c).After-all-2).0 (rw c.if-not-all-2.false refl)
+    (all_are (λ g. g.now) c.args.garblings.now (λ g. IsTrue g.has_digest) c.all-2.result
+    (search rules)).0
+    (rw c.if-not-all-2.false refl)

@@ -43,12 +43,11 @@ loop-i-preserved c =
     let digest = trailer bodies l.i inside c.args.trailers.now c.requires.trailers in
     let done = flat_map with_trailer (take l.i (map (λ b. b.now) bodies)) in
     let more = bytes_more (λ b. b.now) bodies l.i none _ inside refl with_trailer in
-    let place : c.put-trailer_place.result ≡ length (done ++ body) = rw length-append (omega arith) in
+    let one = put_after done body _ l.files _ l.place l.invariant.place l.invariant.done
+    c.put-trailer_place.ensures.bytes in
     record {
       done = rw (more, ← append_assoc done body (sha256 body), ← digest)
-          (put_after (done ++ body) _ _ _ _ _ place
-          (put_after done body _ l.files _ l.place l.invariant.place l.invariant.done
-          c.put-trailer_place.ensures.bytes)
+          (put_after (done ++ body) _ _ _ _ _ (rw length-append (omega arith)) one
           c.put-place.ensures.bytes);
       place = rw (more, length-append, length-append) (omega (arith, ap length digest));
       count = omega arith;

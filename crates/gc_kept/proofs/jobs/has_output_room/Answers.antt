@@ -7,5 +7,5 @@ returns-then-room-outputs-clause-fault c =
     let i = c.loop-job.job-index in
     let jobs = c.args.jobs.now in
     let at = job_at jobs (λ j. j.now) i _ (omega arith) c.job-item.is in
-    let within = rw take-map at (outputs_within (map (λ j. j.now) jobs) i c.job-item.result.now at) in
-    (refl, omega arith)
+    let within = outputs_within (map (λ j. j.now) jobs) i c.job-item.result.now at in
+    (refl, omega (arith, rw take-map at within))

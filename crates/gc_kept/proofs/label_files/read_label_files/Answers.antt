@@ -12,7 +12,8 @@ split_at-requires c =
     (sym (c.add_up.ensures.0 c.if-not-add_up.false)) (omega arith)
 
 -- The next file, and what comes after it.
-split : (c : After-split_at) → c.loop-length.rest.now ≡ c.split_at.result.0.now ++ c.split_at.result.1.now
+split : (c : After-split_at)
+    → c.loop-length.rest.now ≡ c.split_at.result.0.now ++ c.split_at.result.1.now
 split c = rw (c.split_at.ensures.front, c.split_at.ensures.back) (sym (take-append-drop _ _))
 
 pub returns-in_err-read_labels-clause-fault : goal.returns-in_err-read_labels-clause-fault

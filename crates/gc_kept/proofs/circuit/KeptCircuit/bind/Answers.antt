@@ -19,11 +19,12 @@ returns-in_err-labels-clause-fault c =
 
 pub returns-in_err-job-clause-fault : goal.returns-in_err-job-clause-fault
 returns-in_err-job-clause-fault c =
-    let bound = c.in_err-job.ensures.err (rw c.circuit.ensures.same c.in_ok-digest.ensures.ok.digest_is) in
     if_err _ _ c.from_residual-in_err-job.ensures.1 (inr (
       c.in_ok-digest.ensures.ok.taken,
       of_binding _ _ _ c.in_ok-garbled.ensures c.in_ok-labels.ensures.ok
-          (λ other. rw (← c.circuit.ensures.same, ← c.deref.ensures.value) (bound other)),
+          (λ other. rw (← c.circuit.ensures.same, ← c.deref.ensures.value)
+          (c.in_err-job.ensures.err
+          (rw c.circuit.ensures.same c.in_ok-digest.ensures.ok.digest_is) other)),
     ))
 
 pub returns-in_err-again-clause-fault : goal.returns-in_err-again-clause-fault

@@ -6,8 +6,8 @@ use Rattle.gc_kept.proofs.garbler.KeptGarbler.input_labels.Goals as goal
 
 pub labels_of-labels-requires : goal.labels_of-labels-requires
 labels_of-labels-requires c =
-    let fits = value-fits c.self.inside.circuit.netlist.input_widths c.args.index c.in_ok-width.width
-    c.in_ok-width.ensures.ok in
+    let fits = value-fits c.self.inside.circuit.netlist.input_widths c.args.index
+    c.in_ok-width.width c.in_ok-width.ensures.ok in
     let lawful = c.circuit.ensures.lawful.inputs_fit in
     grind arith
 

@@ -32,8 +32,9 @@ returns-clause-ok c =
 
 pub returns-clause-fault : goal.returns-clause-fault
 returns-clause-fault c =
+    let width = c.in_ok-width in
     rw (← c.self.view_is) (IfErr-weaker c.write_both.result _ _ (λ fault lacks. rw lacks.0 (
       c.is_whole.ensures.0 (rw c.if-not-is_whole.false refl)
           ∙ ap and_count c.circuit-circuit.ensures.same,
-      (c.in_ok-width.width, c.in_ok-width.ensures.ok, rw c.labels_of-labels.ensures.count at lacks.1),
+      (width.width, width.ensures.ok, rw c.labels_of-labels.ensures.count at lacks.1),
     )) c.write_both.ensures.fault)

@@ -14,7 +14,7 @@ pub loop-rows-preserved : goal.loop-rows-preserved
 loop-rows-preserved c =
     let l = c.loop-rows in
     let some = c.write_some-written in
-    let long = length-put_rest l.done l.buffer some.new.buffer l.invariant.within some.auto.buffer in
+    let long = length-put_rest l.done l.buffer _ l.invariant.within some.auto.buffer in
     record {
       makes = makes-more _ l.self _ c.args.buffer.now l.buffer some.new.buffer l.done _
           l.invariant.makes some.ensures.makes l.invariant.within;

@@ -4,7 +4,8 @@ use Rattle.gc_kept.proofs.garbling.KeptGarbling.input_zero_labels.Goals as goal
 
 pub labels_of-requires : goal.labels_of-requires
 labels_of-requires c =
-    let fits = value-fits c.args.self.now.circuit.input_widths c.args.index c.args.width c.requires in
+    let circuit = c.args.self.now.circuit in
+    let fits = value-fits circuit.input_widths c.args.index c.args.width c.requires in
     let lawful = rw c.circuit.ensures.netlist at c.circuit-2.ensures.lawful in
     let room = lawful.inputs_fit in
     grind arith
