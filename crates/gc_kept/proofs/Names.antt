@@ -2,7 +2,6 @@
 pub use Rattle.std.proofs.Common.{◌≡◌, ℕ, ◌+◌, ◌-◌, ◌≤◌, List, length, take, drop, refl, sym, ap, ◌∙◌, drop-drop, arith, ◌*◌, ◌<◌, [], ◌∷◌, ◌++◌, get_or, zero, suc, ◌⊎◌, inl, inr, Bool, Option, Vec, IfSome, Result, set, slice_get, Some, length-set, true, false, not, flat_map, append-nil, map, length-append, length-drop, append_assoc, take-add, ◌%◌, ◌≢◌, rules, nat_eq, nat_lt, Bor, ◌↔◌, IsTrue, length-take}
 pub use Rattle.std.proofs.Math.Seq.{drop-append-add, take-append_seam}
 pub use Rattle.std.proofs.lemmas.Bool.{cases_eq, and_parts, and_cases}
-pub use Rattle.std.proofs.lemmas.Bool.Decides.{nat_tests}
 pub use Rattle.std.proofs.lemmas.List.{drop-take, take-take, take_more, get_or-set_other, get_or-set_same, get_or_default, get_or-take, get_or-drop, take_at, map_more, length-map, drop_all, take_more_set, take_rest, length-take-le, take_all, map-append, nil_from_length, take-map, get_or-map, get_or_read, length_push, take-append-le, take-append-drop}
 pub use Rattle.std.proofs.lemmas.List.Concat.{flat_map-append}
 pub use Rattle.std.proofs.lemmas.List.Elements.{All-append, All-push, All-map}
@@ -13,7 +12,6 @@ pub use Rattle.std.proofs.lemmas.Option.{slice_get_within, slice_get-get_or, get
 pub use Rattle.std.proofs.lemmas.Result.{on_ok_weaker, IfErr-weaker}
 pub use Rattle.std.proofs.lemmas.Slice.Zip.{all_zipped_more, length-zip}
 pub use Rattle.std.specs.List.{slice_index, sum, AllZip, All, range_with_len}
-pub use Rattle.gc_audit.proofs.LabelsLemmas.{encoded-more, found_at}
 pub use Rattle.gc_file.proofs.DealLemmas.{encoded_with-append, length-encoded_with, first_wire-room}
 pub use Rattle.gc_file.proofs.ItemLemmas.{items_from, items_spelled, label_spelling, row_of, row_spelling}
 pub use Rattle.gc_file.proofs.NumberLemmas.{length-number_bytes}

@@ -17,6 +17,7 @@ use std::marker::Model;
 use std::sync::Arc;
 
 /// The width at this index, or 42 where there is none.
+#[tactic(auto, using(std::proofs::lemmas::Option::gets))]
 fn width_of(widths: &[u32], index: u32) -> Result<usize, KeptFault>
     ensures ok { IfOk result (λ width. slice_get widths.now index ≡ Some width) }
     ensures few { IfOk result (λ width. width < 2 ^ 32) }

@@ -1,4 +1,5 @@
-use Rattle.gc_kept.proofs.Names.{and_parts, and_cases, ◌≡◌, ◌≢◌, ℕ, ◌+◌, ◌<◌, ◌++◌, Bool, true, false, List, [], ◌∷◌, length, map, take, get_or, inl, inr, arith, rules, nat_eq, nat_lt, nat_tests, take_more, slice_get-get_or, bit_number}
+use Rattle.gc_kept.proofs.Names.{and_parts, and_cases, ◌≡◌, ◌≢◌, ℕ, ◌+◌, ◌<◌, ◌++◌, Bool, true, false, List, [], ◌∷◌, length, map, take, get_or, inl, inr, arith, rules, nat_eq, nat_lt, take_more, slice_get-get_or, bit_number}
+use Rattle.std.proofs.lemmas.Bool.Decides.{nat_tests}
 use Rattle.std.proofs.lemmas.Grind.{common_steps}
 use Rattle.gc_kept.proofs.bits.read_bits.Goals as goal
 

@@ -1,4 +1,5 @@
-use Rattle.gc_kept.proofs.Names.{and_parts, and_cases, get_or_read, ◌≡◌, ◌+◌, [], ◌∷◌, ◌++◌, length, inl, inr, refl, ap, ◌∙◌, arith, slice_index, take_all, encoded-more}
+use Rattle.gc_kept.proofs.Names.{and_parts, and_cases, get_or_read, ◌≡◌, ◌+◌, [], ◌∷◌, ◌++◌, length, inl, inr, refl, ap, ◌∙◌, arith, slice_index, take_all}
+use Rattle.gc_audit.proofs.LabelsLemmas.{encoded-more}
 use Rattle.gc_kept.proofs.OpenLemmas.{labels_spelled, length-are}
 use Rattle.gc_kept.proofs.open.are_right.Goals as goal
 
