@@ -1,6 +1,5 @@
 -- Label files in turn, and the places where they are.
-use Rattle.gc_job.proofs.Names.{◌≡◌, ◌≢◌, ℕ, ◌+◌, ◌<◌, ◌≤◌, Bool, true, false, inl, inr, List, [], length, take, set, get_or, slice_get, Option, Some, None, is_some, MatchOption, not, eqb, ltb, refl, sym, ◌∙◌, arith, slice_get_within, slice_get_read, cases_eq, Decides-eqb, LabelFileParts, DoubleValue, HasFile, IsFileInOrder, AreInOrder, LabelsFault, double_value, IsFileFor, ArePlaces}
-use Rattle.std.proofs.lemmas.List.{get_or-set_same, get_or-set_other, length-set}
+use Rattle.gc_job.proofs.Names.{◌≡◌, ◌≢◌, ℕ, ◌+◌, ◌<◌, ◌≤◌, Bool, true, false, inl, inr, List, [], length, take, set, get_or, slice_get, Option, Some, None, is_some, MatchOption, not, eqb, ltb, refl, sym, ◌∙◌, arith, slice_get_within, slice_get_read, cases_eq, Decides-eqb, LabelFileParts, DoubleValue, HasFile, IsFileInOrder, AreInOrder, LabelsFault, double_value, IsFileFor, ArePlaces, get_or-set_same, get_or-set_other, length-set}
 use Rattle.std.proofs.lemmas.Slice.Eq.{slice_eq-Decides}
 use lib.Pointwise.{pointwise}
 use borrow.Author.Tests.{ltb-true}
@@ -30,7 +29,7 @@ module _ (widths : List ℕ) (before : List LabelFileParts) (file : LabelFilePar
     (marked : ArePlaces before places)
     (at : slice_get widths file.index ≡ Some (length file.labels)) where
   inside : file.index < length places
-  inside = omega (arith, slice_get_within widths file.index (length file.labels) at, wide)
+  inside = omega (arith, slice_get_within widths file.index (length file.labels) at)
 
   -- A file whose value has a file already,
   pub double_value_at : is_some (get_or places file.index None) ≡ true
@@ -64,8 +63,7 @@ module _ (widths : List ℕ) (files : List LabelFileParts) (i : ℕ) (file : Lab
   file_before value other h =
       let new = slice_get_taken (i + 1) h.place files h.file h.at in
       elim (cases_eq h.place i) [
-        | inl same ↦
-            let is : file ≡ h.file = cc (new.1) in absurd (other (rw is (sym h.index)))
+        | inl same ↦ let is : file ≡ h.file = cc (new.1) in absurd (other (cc))
         | inr differs ↦
             let found = slice_get-take i h.place files (omega (arith, new.0)) ∙ new.1 in
             record { place = h.place; file = h.file; at = found; index = h.index }
@@ -91,8 +89,7 @@ module _ (widths : List ℕ) (files : List LabelFileParts) (i : ℕ) (file : Lab
         rw (same, get_or-set_same places file.index (Some i) None room)
         (record { file = file; at = here; index = refl })
     | inr other ↦ rw (get_or-set_other places file.index value (Some i) None other)
-        (place_kept value (get_or places value None) other
-        (marked value (omega (arith, inside, length-set places file.index (Some i)))))
+        (place_kept value _ other (marked value (rw length-set at inside)))
   ]
 
 -- What comparing two digests says.
@@ -103,5 +100,4 @@ module _ (a b : List ℕ) (differ : Bool) (is : differ ≡ not (pointwise eqb a 
 
   pub same_digest : differ ≡ false → a ≡ b
   same_digest agrees =
-      (slice_eq-Decides Decides-eqb a b (pointwise eqb a b) refl).0
-      (let e : not (pointwise eqb a b) ≡ false = sym is ∙ agrees in grind arith)
+      (slice_eq-Decides Decides-eqb a b (pointwise eqb a b) refl).0 (grind arith)

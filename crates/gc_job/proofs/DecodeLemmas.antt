@@ -1,12 +1,8 @@
 -- Decoding, one label after another, and recognising labels.
-use Rattle.gc_job.proofs.Names.{◌≡◌, ℕ, ◌+◌, ◌-◌, ◌<◌, ◌≤◌, ◌++◌, List, [], ◌∷◌, Bool, false, not, length, length-take, length-drop, take, drop, get_or, slice_get, slice_index, Some, IsTrue, ◌↔◌, eqb, inl, inr, refl, sym, ap, ◌∙◌, arith, cases_eq, nat_tests, slice_get_read, xor, colour, hash, output_tweak, decode, IsRecognised, AreRecognised}
-use Rattle.std.proofs.Common.{◌&&◌}
+use Rattle.gc_job.proofs.Names.{get_or_read, ◌≡◌, ℕ, ◌+◌, ◌-◌, ◌<◌, ◌≤◌, ◌++◌, List, [], ◌∷◌, Bool, false, not, length, length-take, length-drop, take, drop, get_or, slice_get, slice_index, Some, IsTrue, ◌↔◌, eqb, inl, inr, refl, sym, ap, ◌∙◌, arith, cases_eq, nat_tests, slice_get_read, xor, colour, hash, output_tweak, decode, IsRecognised, AreRecognised, ◌&&◌, cases_Bool, take_more, length-take-le, get_or-take, get_or-drop, IsKnownUntil}
 use Rattle.std.proofs.Math.Bool.{beq}
-use Rattle.std.proofs.lemmas.Bool.{cases_Bool}
 use Rattle.std.specs.Int.{from_bool}
-use Rattle.std.proofs.lemmas.List.{take_more, length-take-le, get_or_default, get_or-take, get_or-drop}
 use Rattle.gc_file.specs.declared.parts.EntryPair.{EntryPair}
-use Rattle.gc_job.specs.Evaluate.{IsKnownUntil}
 
 decode-push : (bits : List Bool) (labels : List ℕ) (b : Bool) (l : ℕ)
     → length bits ≡ length labels
@@ -48,14 +44,15 @@ hash_in_part and_gates labels hashes first end i label hashed from below within 
     read each =
     let part = take (end - first) (drop first labels) in
     let place : first + (i - first) ≡ i = omega arith in
-    let same : get_or part (i - first) label ≡ label =
-    get_or-take (end - first) (drop first labels) (i - first) label (omega arith)
-    ∙ get_or-drop first labels (i - first) label ∙ rw place (sym at) in
+    let same : label ≡ get_or part (i - first) label =
+    rw (
+      get_or-take (end - first) (drop first labels) (i - first) label (omega arith),
+      get_or-drop first labels (i - first) label,
+      place,
+    ) at in
     let found = slice_get_read part (length part) (i - first) label refl
-    (omega (arith, length-take (end - first) (drop first labels), length-drop first labels))
-    (sym same) in
-    read ∙ sym (get_or_default hashes (i - first) 0 hashed inside)
-    ∙ each (i - first) label found ∙ rw place refl
+    (omega (arith, length-take (end - first) (drop first labels), length-drop first labels)) same in
+    rw place at (get_or_read hashes (i - first) hashed inside read 0 ∙ each (i - first) label found)
 
 -- One more label is recognised.
 pub recognised_more : (and_gates : ℕ) (entries : List EntryPair) (labels : List ℕ) (i label : ℕ)

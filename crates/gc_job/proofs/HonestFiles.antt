@@ -1,6 +1,5 @@
 -- Honest files are bound to an honest job.
-use Rattle.gc_job.proofs.Names.{◌≡◌, ℕ, suc, ◌+◌, Bool, List, [], ◌∷◌, length, map, sum, take, drop, flat_map, slice_get, Some, Result, MatchResult, refl, sym, ap, ◌∙◌, arith, slice_get-map, slice_get_within, same_Some, sum-map, sum_by-cons, length-flat_map, Netlist, IsLawful, AreOutputs, GarbledParts, LabelFileParts, encoded_from, EvalFault, Memory, JobParts, IsEvaluated, HasCounts, LabelsFault, no_such_value, wrong_width, double_value, of_file, missing_value, FirstBindFault, other_circuit, other_counts, of_labels, IsBound, IsHonest, AreHonestFiles, HonestFilesLaw}
-use Rattle.std.proofs.lemmas.List.{length-drop, length-map, take-append-drop, drop-drop}
+use Rattle.gc_job.proofs.Names.{◌≡◌, ℕ, suc, ◌+◌, Bool, List, [], ◌∷◌, length, map, sum, take, drop, flat_map, slice_get, Some, Result, MatchResult, refl, sym, ap, ◌∙◌, arith, slice_get-map, slice_get_within, same_Some, sum-map, sum_by-cons, length-flat_map, Netlist, IsLawful, AreOutputs, GarbledParts, LabelFileParts, encoded_from, EvalFault, Memory, JobParts, IsEvaluated, HasCounts, LabelsFault, no_such_value, wrong_width, double_value, of_file, missing_value, FirstBindFault, other_circuit, other_counts, of_labels, IsBound, IsHonest, AreHonestFiles, HonestFilesLaw, length-drop, length-map, take-append-drop, drop-drop}
 use Rattle.gc_file.proofs.ByteLemmas.{length-decode_bits}
 use Rattle.gc_file.proofs.DealLemmas.{encoded_from-append, length-encoded_from}
 use Rattle.gc_job.specs.declared.fault.BindFault.{BindFault}

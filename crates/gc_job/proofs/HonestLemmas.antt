@@ -1,7 +1,5 @@
 -- An honest job evaluates to the outputs of its circuit.
-use Rattle.gc_job.proofs.Names.{◌≡◌, ℕ, ◌+◌, ◌-◌, ◌<◌, Bool, true, false, List, length, get_or, slice_get, Some, Result, Ok, Err, MatchResult, refl, sym, ap, ◌∙◌, arith, range_with_len, zip, length-range_with_len, get_or-range_with_len, length-map-range_with_len, slice_get_read, length-zip, get_or-zip, output_wires, and_count, solution, on_outputs, xor, bits_of, bit_rule, IsAssignment, AreOutputs, solution_solves, read-table, colour, hash, label_of_colour, output_tweak, entry_of, IsEvaluation, encode, decode, encoded_from, EvalFault, BadWorkers, UnknownOutputLabel, Memory, JobParts, IsWhole, labels_of, entry, IsRecognised, IsEvaluated, IsHonest}
-use Rattle.std.specs.Result.{result_map_both}
-use Rattle.std.proofs.lemmas.List.{get_or-map}
+use Rattle.gc_job.proofs.Names.{◌≡◌, ℕ, ◌+◌, ◌-◌, ◌<◌, Bool, true, false, List, length, get_or, slice_get, Some, Result, Ok, Err, MatchResult, refl, sym, ap, ◌∙◌, arith, range_with_len, zip, length-range_with_len, get_or-range_with_len, length-map-range_with_len, slice_get_read, length-zip, get_or-zip, output_wires, and_count, solution, on_outputs, xor, bits_of, bit_rule, IsAssignment, AreOutputs, solution_solves, read-table, colour, hash, label_of_colour, output_tweak, entry_of, IsEvaluation, encode, decode, encoded_from, EvalFault, BadWorkers, UnknownOutputLabel, Memory, JobParts, IsWhole, labels_of, entry, IsRecognised, IsEvaluated, IsHonest, result_map_both, get_or-map}
 use Rattle.gc_circuit.proofs.BitLemmas.{bit_local}
 use Rattle.gc_label.specs.Seed.{offset_of, input_label_of}
 use Rattle.gc_label.proofs.SeedLemmas.{colour-offset_of}

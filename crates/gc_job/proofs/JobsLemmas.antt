@@ -1,18 +1,6 @@
 -- Jobs of a list, one after another.
-use Rattle.gc_job.proofs.Names.{◌≡◌, ℕ, zero, suc, ◌+◌, inl, Bool, List, [], ◌∷◌, ◌++◌, length, map, take, slice_get, slice_get_within, get_or, get_or_from_slice_get, Option, Some, None, Ok, Err, refl, ◌∙◌, arith, output_wires, JobParts, IsEvaluated, EvalFault, BadWorkers, UnknownOutputLabel, Memory}
-use Rattle.std.proofs.Common.{◌⊎◌, ⊎_elim, IfSome, Vec}
-use Rattle.std.proofs.lemmas.List.{length-append, map-append, take_more, take_all}
-use Rattle.std.proofs.lemmas.Option.{slice_get-get_or}
-use Rattle.gc_job.specs.Jobs.{AreBitsOf, AreEvaluated, EvaluateTo}
-
--- The outputs are those of the first n jobs.
-pub record AreEvaluatedBefore (jobs : List JobParts) (outputs : List (List Bool)) (n : ℕ)
-    : Type 0 where
-  pub count : length outputs ≡ n
-  pub lengths : map length outputs ≡ map (λ job. output_wires job.circuit) (take n jobs)
-  pub each : (k : ℕ) (job : JobParts) (bits : List Bool) → slice_get jobs k ≡ Some job
-      → slice_get outputs k ≡ Some bits
-      → IsEvaluated job (Ok bits)
+use Rattle.gc_job.proofs.Names.{◌≡◌, ℕ, zero, suc, ◌+◌, inl, Bool, List, [], ◌∷◌, ◌++◌, length, take, slice_get, slice_get_within, get_or, get_or_from_slice_get, Option, Some, None, Ok, Err, refl, ◌∙◌, arith, output_wires, JobParts, IsEvaluated, EvalFault, BadWorkers, UnknownOutputLabel, Memory, ◌⊎◌, ⊎_elim, IfSome, Vec, length-append, map-append, map_more, length-take, ◌<◌, slice_get-get_or, AreBitsOf, AreEvaluated, EvaluateTo}
+use Rattle.gc_job.proofs.TakeLemmas.{slice_get-take, slice_get_taken}
 
 -- an element of a list that one was pushed to
 pushed : {X : Type 0} (xs : List X) (x y : X) (k : ℕ) → slice_get (xs ++ x ∷ []) k ≡ Some y
@@ -26,46 +14,45 @@ pushed (a ∷ xs) x y (suc k) h = grind (arith, pushed xs x y k h)
 pub evaluated_more : (jobs : List JobParts) (outputs : List (List Bool)) (n : ℕ) (job : JobParts)
     (bits : List Bool)
     → slice_get jobs n ≡ Some job → IsEvaluated job (Ok bits)
-    → length bits ≡ output_wires job.circuit → AreEvaluatedBefore jobs outputs n
-    → AreEvaluatedBefore jobs (outputs ++ bits ∷ []) (n + 1)
-evaluated_more jobs outputs n job bits at is long before = record {
-  count = omega (arith, length-append outputs (bits ∷ []), before.count);
-  lengths = rw (
-    map-append length outputs (bits ∷ []),
-    before.lengths,
-    long,
-    take_more jobs n job (slice_get_within jobs n job at),
-    get_or_from_slice_get jobs n job job at,
-    map-append (λ (j : JobParts). output_wires j.circuit) (take n jobs) (job ∷ []),
-  ) refl;
-  each = λ k other found other_at found_at. ⊎_elim (before.each k other found other_at)
-      (λ last. let same : job ≡ other = cc in rw (← same, ← last.1) is)
-      (pushed outputs bits found k found_at);
-}
-
--- there are no more
-pub evaluated_all : (jobs : List JobParts) (outputs : List (List Bool)) (n : ℕ) → n ≡ length jobs
-    → AreEvaluatedBefore jobs outputs n → AreEvaluated jobs outputs
-evaluated_all jobs outputs n all before = record {
-  count = before.count ∙ all;
-  lengths = (rw (take_all n jobs (omega (arith, all))) at before.lengths);
-  each = before.each;
-}
+    → length bits ≡ output_wires job.circuit → AreEvaluated (take n jobs) outputs
+    → AreEvaluated (take (n + 1) jobs) (outputs ++ bits ∷ [])
+evaluated_more jobs outputs n job bits at is long before =
+    let within = slice_get_within jobs n job at in
+    let count : length outputs ≡ n = omega (arith, before.count, length-take n jobs) in
+    record {
+      count = omega (arith, length-append outputs (bits ∷ []), length-take (n + 1) jobs);
+      lengths = rw (
+        map-append length outputs (bits ∷ []),
+        before.lengths,
+        long,
+        map_more (λ (j : JobParts). output_wires j.circuit) jobs n job within,
+        get_or_from_slice_get jobs n job job at,
+      ) refl;
+      each = λ k other found other_at found_at.
+          let there = slice_get_taken (n + 1) k jobs other other_at in ⊎_elim
+          (λ here. before.each k other found (slice_get-take n k jobs
+          (omega (arith, slice_get_within outputs k found here)) ∙ there.1) here)
+          (λ last. let same : job ≡ other = cc (there.1) in rw (← same, ← last.1) is)
+          (pushed outputs bits found k found_at);
+    }
 
 -- The fault of a job's evaluation is that of the list.
 pub job_fault : (jobs : List JobParts) (outputs : List (List Bool)) (n : ℕ) (job : JobParts)
     (fault : EvalFault)
-    → slice_get jobs n ≡ Some job → IsEvaluated job (Err fault) → AreEvaluatedBefore jobs outputs n
-    → EvaluateTo jobs (Err fault)
+    → slice_get jobs n ≡ Some job → IsEvaluated job (Err fault)
+    → AreEvaluated (take n jobs) outputs → EvaluateTo jobs (Err fault)
 job_fault jobs outputs n job (UnknownOutputLabel output) at is before = record {
   place = n;
   job = job;
   at = at;
   unknown = is;
-  before = λ k other below other_at. (
-    get_or outputs k [],
-    before.each k other _ other_at (slice_get-get_or outputs k [] (omega (arith, before.count))),
-  );
+  before = λ k other below other_at.
+      let within = slice_get_within jobs n job at in
+      let room : k < length outputs = omega (arith, before.count, length-take n jobs) in (
+        get_or outputs k [],
+        before.each k other _ (slice_get-take n k jobs below ∙ other_at)
+            (slice_get-get_or outputs k [] room),
+      );
 }
 job_fault jobs outputs n job Memory at is before = tt
 job_fault jobs outputs n job BadWorkers at is before = absurd is.decoding

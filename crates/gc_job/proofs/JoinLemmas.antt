@@ -1,6 +1,5 @@
 -- Labels of files joined in the order of their values.
-use Rattle.gc_job.proofs.Names.{◌≡◌, ℕ, zero, suc, ◌+◌, ◌<◌, true, false, List, [], ◌∷◌, ◌++◌, length, map, sum, take, drop, get_or, slice_get, Option, Some, None, is_none, is_some, flat_map, MatchOption, IsSomeAnd, refl, sym, ap, ◌∙◌, arith, list_any, sum-map, sum_by-cons, flat_map-append, length-flat_map, slice_get_within, get_or_from_slice_get, LabelFileParts, MissingValue, HasFile, AreInOrder, FirstLabelsFault, missing_value, AreBound, IsFileFor, ArePlaces, labels_at}
-use Rattle.std.proofs.lemmas.List.{take_at, drop_at, drop-drop, length-map, length-take, get_or-take, take_more, append-nil, same_lists, get_or-map, get_or_default}
+use Rattle.gc_job.proofs.Names.{◌≡◌, ℕ, zero, suc, ◌+◌, ◌<◌, true, false, List, [], ◌∷◌, ◌++◌, length, map, sum, take, drop, get_or, slice_get, Option, Some, None, is_none, is_some, flat_map, MatchOption, IsSomeAnd, refl, sym, ap, ◌∙◌, arith, list_any, sum-map, sum_by-cons, flat_map-append, length-flat_map, slice_get_within, get_or_from_slice_get, LabelFileParts, MissingValue, HasFile, AreInOrder, FirstLabelsFault, missing_value, AreBound, IsFileFor, ArePlaces, labels_at, take_at, drop_at, drop-drop, length-map, length-take, get_or-take, take_more, append-nil, same_lists, get_or-map, get_or_default}
 use Rattle.std.proofs.lemmas.List.Folds.{list_any_at, Any-from_list_any}
 use Rattle.gc_job.proofs.TakeLemmas.{slice_get-take}
 use Rattle.gc_job.proofs.BindLemmas.{place_free}

@@ -1,42 +1,32 @@
 -- The labels of the output wires.
-use Rattle.gc_job.proofs.Names.{◌≡◌, ℕ, ◌+◌, ◌-◌, ◌<◌, List, length, slice_get, Some, Bool, Result, Ok, Err, refl, sym, ap, ◌∙◌, arith, length-map-range_with_len, get_or-map-range_with_len, length-zip, slice_get_within, get_or_from_slice_get, Netlist, output_wires, IsLawful, solution, on_outputs, solution_solves, hash, active_rule, active_local, EvalFault, Memory, GarbledParts, LabelFileParts, JobParts, IsWhole, IsBound, labels_of, IsDecodingOf, IsEvaluated}
-use Rattle.std.proofs.Common.{IfOk}
-use Rattle.std.specs.Result.{result_map_both}
-use Rattle.std.proofs.lemmas.List.{length-map}
+use Rattle.gc_job.proofs.Names.{◌≡◌, ℕ, ◌+◌, ◌-◌, ◌<◌, List, length, slice_get, Some, Bool, Result, Ok, Err, refl, sym, ◌∙◌, arith, length-map-range_with_len, get_or-map-range_with_len, length-zip, slice_get_within, get_or_from_slice_get, Netlist, output_wires, IsLawful, solution, on_outputs, solution_solves, hash, active_rule, EvalFault, Memory, GarbledParts, LabelFileParts, JobParts, IsWhole, IsBound, labels_of, IsDecodingOf, IsEvaluated, IfOk, result_map_both, length-map}
+use Rattle.gc_half.proofs.CircuitLaw.{active_local}
 use Rattle.gc_half.proofs.NumberedLemmas.{IsEvaluation-zero}
 use Rattle.gc_half.specs.Joined.{AreOutputLabels}
-use Rattle.gc_netlist.specs.Circuit.{and_count, input_wires}
 use Rattle.gc_half.specs.declared.garbling.RowPair.{RowPair}
 
 module _ (c : Netlist) (lawful : IsLawful c) (values : ℕ → ℕ) where
   pub length-outputs : (last : List ℕ) → last ≡ on_outputs c values → length last ≡ output_wires c
-  length-outputs last is = ap length is ∙ length-map-range_with_len values _ (output_wires c)
+  length-outputs last is = rw (is, length-map-range_with_len values) refl
 
   -- The label of one of them.
   pub output-at : (i label : ℕ) → slice_get (on_outputs c values) i ≡ Some label
       → (i < output_wires c) × (label ≡ values (c.wires - output_wires c + i))
   output-at i label at =
       let outputs = output_wires c in
-      let within : i < length (on_outputs c values) = slice_get_within _ _ _ at in
-      let inside : i < outputs = omega (arith, length-outputs (on_outputs c values) refl) in (
+      let inside : i < outputs =
+      rw (length-outputs (on_outputs c values) refl) at
+      (slice_get_within (on_outputs c values) i label at) in (
         inside,
         sym (get_or_from_slice_get (on_outputs c values) i label 0 at)
-            ∙ get_or-map-range_with_len values (c.wires - outputs) outputs i (c.wires - outputs + i)
-            0 inside (omega arith),
+            ∙ get_or-map-range_with_len values (c.wires - outputs) outputs i _ 0 inside refl,
       )
 
 -- There is an output label for each output wire.
 pub length-output_labels : (c : Netlist) (rows : List RowPair) (inputs labels : List ℕ)
     → AreOutputLabels 0 c rows inputs labels → length labels ≡ output_wires c
 length-output_labels c rows inputs labels are =
-    ap length are.last ∙ length-map-range_with_len are.active _ (output_wires c)
-
--- What a job has is enough to evaluate an equal circuit.
-pub can-evaluate : (job : JobParts) (c : Netlist) (rows : List RowPair) (inputs : List ℕ)
-    → IsWhole job → job.circuit ≡ c → rows ≡ job.rows → inputs ≡ job.inputs
-    → (length rows ≡ and_count c) × (length inputs ≡ input_wires c)
-can-evaluate job c rows inputs whole same rows_are inputs_are =
-    rw (rows_are, inputs_are, ← same) (whole.rows, whole.inputs)
+    rw (are.last, length-map-range_with_len are.active) refl
 
 -- A job is evaluated where its output labels are decoded,
 pub decoded-job : (job : JobParts) (labels : List ℕ) (result : Result (List Bool) EvalFault)
@@ -71,9 +61,8 @@ bound-whole c lawful g files job bound = rw bound.parts (record {
 pub length-evaluated : (job : JobParts) → IsWhole job → (bits : List Bool)
     → IsEvaluated job (Ok bits) → length bits ≡ output_wires job.circuit
 length-evaluated job whole bits is =
-    let labels = on_outputs job.circuit is.active in
-    let long = length-outputs job.circuit whole.lawful is.active labels refl in
-    rw (is.decoding.0, length-map, length-zip) (omega (arith, long, whole.decode_bits))
+    let long = length-outputs job.circuit whole.lawful is.active _ refl in
+    rw (is.decoding.0, length-map, length-zip) (omega (arith, long))
 
 pub length-result : {V : Type 0} (bits_in : V → List Bool) (job : JobParts) → IsWhole job
     → (r : Result V EvalFault) → IsEvaluated job (result_map_both bits_in (λ fault. fault) r)

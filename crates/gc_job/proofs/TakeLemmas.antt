@@ -1,5 +1,5 @@
 -- Elements of the front of a list.
-use Rattle.std.proofs.Common.{◌≡◌, ℕ, zero, suc, ◌<◌, List, [], ◌∷◌, take, slice_get, Some, refl, arith}
+use Rattle.gc_job.proofs.Names.{◌≡◌, ℕ, zero, suc, ◌<◌, List, [], ◌∷◌, take, slice_get, Some, refl, sym, ◌∙◌, length-take, arith, slice_get_within}
 
 pub slice_get-take : {X : Type 0} (n k : ℕ) (xs : List X) → k < n
     → slice_get (take n xs) k ≡ slice_get xs k
@@ -12,8 +12,6 @@ slice_get-take (suc n) (suc k) (x ∷ xs) h = slice_get-take n k xs (omega arith
 pub slice_get_taken : {X : Type 0} (n k : ℕ) (xs : List X) (x : X)
     → slice_get (take n xs) k ≡ Some x
     → (k < n) × (slice_get xs k ≡ Some x)
-slice_get_taken zero k xs x h = absurd (cc)
-slice_get_taken (suc n) k [] x h = absurd (cc)
-slice_get_taken (suc n) zero (y ∷ xs) x h = (omega arith, h)
-slice_get_taken (suc n) (suc k) (y ∷ xs) x h =
-    let rest = slice_get_taken n k xs x h in (omega (arith, rest.0), rest.1)
+slice_get_taken n k xs x h =
+    let below : k < n = omega (arith, slice_get_within (take n xs) k x h, length-take n xs) in
+    (below, sym (slice_get-take n k xs below) ∙ h)

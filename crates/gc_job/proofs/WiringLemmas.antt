@@ -1,12 +1,8 @@
 -- The gate that sets a wire, in a table.
-use Rattle.gc_job.proofs.Names.{◌≡◌, ◌≢◌, refl, ℕ, ◌+◌, ◌<◌, ◌≤◌, inl, inr, List, set, length, length-set, get_or-set_same, get_or-set_other, slice_get, Some, sym, ◌∙◌, arith, slice_get_within, cases_eq, Netlist, IsSetBy, IsLawful, input_wires}
+use Rattle.gc_job.proofs.Names.{◌≡◌, ◌≢◌, refl, ℕ, ◌+◌, ◌<◌, ◌≤◌, inl, inr, List, set, length, length-set, get_or-set_same, get_or-set_other, slice_get, Some, sym, ◌∙◌, arith, slice_get_within, cases_eq, Netlist, IsSetBy, IsLawful, input_wires, AreSetters}
 use Rattle.gc_netlist.specs.declared.gate.Gate.{Gate}
-use Rattle.gc_job.specs.Wiring.{AreSetters}
 
--- A gate sets one wire.
-one_wire : (c : Netlist) (g v w : ℕ) → IsSetBy c v g → IsSetBy c w g → v ≡ w
-one_wire c g v w a b = cc
-
+-- The gate that sets a wire is there.
 pub set_within : (c : Netlist) (w g : ℕ) → IsSetBy c w g → g < length c.gates
 set_within c w g set = slice_get_within c.gates g set.gate set.at
 
@@ -53,8 +49,7 @@ more_setters c n i g setters lawful at wire are =
             rw (same, here, set_once c (input_wires c + i) n h lawful mine (rw same at by)) refl
         | inr other ↦
             let apart : h ≢ n = λ e. other (
-            let wires = one_wire c n (input_wires c + j) (input_wires c + i) (rw e at by) mine in
-            omega arith) in
+            let same : input_wires c + j ≡ input_wires c + i = cc (mine.wire) in omega arith) in
             get_or-set_other setters i j (n + 1) 0 other ∙ are.set j h (omega arith) by
       ];
       setter = λ j h is. elim (cases_eq j i) [

@@ -1,5 +1,4 @@
-use Rattle.gc_job.proofs.Names.{◌≡◌, ℕ, Option, None, Some, length, take, slice_get, replicate, refl, subst, arith, slice_get_read, err_from_is_err_and, AreInOrder, of_file}
-use Rattle.std.proofs.lemmas.List.{get_or-replicate}
+use Rattle.gc_job.proofs.Names.{◌≡◌, ℕ, Option, None, Some, length, take, slice_get, replicate, refl, subst, arith, slice_get_read, err_from_is_err_and, AreInOrder, of_file, get_or-replicate}
 use Rattle.gc_job.proofs.BindLemmas.{places_none, in_order_more, places_more}
 use Rattle.gc_job.proofs.bind.places_of.Goals as goal
 

@@ -1,5 +1,4 @@
-use Rattle.std.proofs.Common.{IfSome, Ok, subst}
-use Rattle.gc_job.specs.Evaluate.{IsEvaluated}
+use Rattle.gc_job.proofs.Names.{IfSome, Ok, subst, IsEvaluated}
 use Rattle.gc_job.proofs.OutputLemmas.{length-evaluated}
 use Rattle.gc_job.proofs.jobs.bits_of.Goals as goal
 

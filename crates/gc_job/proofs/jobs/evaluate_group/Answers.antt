@@ -15,8 +15,8 @@ evaluate_four-a-requires-clause-b g c =
 
 pub evaluate_four-a-requires-clause-c : goal.evaluate_four-a-requires-clause-c
 evaluate_four-a-requires-clause-c g c =
-    c.requires.one c.min-third.result _ _ (omega (arith, c.min-third.ensures))
-    (omega (arith, c.min-third.ensures)) c.job_at-2.ensures c.job_at-4.ensures
+    c.requires.one c.min-third.result _ _ (omega arith) (omega arith) c.job_at-2.ensures
+    c.job_at-4.ensures
 
 pub evaluate_four-a-requires-clause-d : goal.evaluate_four-a-requires-clause-d
 evaluate_four-a-requires-clause-d g c =

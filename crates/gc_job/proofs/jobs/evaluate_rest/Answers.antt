@@ -1,7 +1,5 @@
-use Rattle.std.proofs.Common.{Bool, Vec, Ok, map, ap, ◌∙◌, arith}
-use Rattle.std.proofs.lemmas.List.{map-append, length-map}
-use Rattle.gc_job.proofs.Names.{err_from_is_err_and, IsEvaluated}
-use Rattle.gc_job.proofs.JobsLemmas.{evaluated_more, evaluated_all, job_fault, if_some}
+use Rattle.gc_job.proofs.Names.{Bool, Vec, Ok, map, ap, ◌∙◌, arith, map-append, length-map, take_all, err_from_is_err_and, IsEvaluated}
+use Rattle.gc_job.proofs.JobsLemmas.{evaluated_more, job_fault, if_some}
 use Rattle.gc_job.proofs.jobs.evaluate_rest.Goals as goal
 
 pub bits_of-requires : goal.bits_of-requires
@@ -28,5 +26,5 @@ loop-i-preserved g c =
 
 pub returns : goal.returns
 returns g c =
-    evaluated_all (map g.J.AsJob.job c.args.jobs.now) _ c.loop-i.i
-    (omega (arith, length-map c.args.jobs.now g.J.AsJob.job)) c.loop-i.invariant.0
+    rw (take_all c.loop-i.i (map g.J.AsJob.job c.args.jobs.now)
+    (omega (arith, length-map c.args.jobs.now g.J.AsJob.job))) at c.loop-i.invariant.0

@@ -1,6 +1,4 @@
-use Rattle.std.proofs.Common.{length, refl}
-use Rattle.std.proofs.lemmas.Option.{slice_get-map}
-use Rattle.gc_job.proofs.Names.{slice_get_read}
+use Rattle.gc_job.proofs.Names.{length, refl, slice_get-map, slice_get_read}
 use Rattle.gc_job.proofs.jobs.job_at.Goals as goal
 
 pub returns : goal.returns

@@ -1,5 +1,4 @@
-use Rattle.gc_job.proofs.Names.{◌-◌, ◌≤◌, length}
-use Rattle.gc_job.specs.Evaluate.{IsKnownUntil}
+use Rattle.gc_job.proofs.Names.{◌-◌, ◌≤◌, length, IsKnownUntil}
 use Rattle.gc_job.proofs.decode.Outputs.first_unknown.Given as goal
 
 abbrev pub invariant-loop-first : goal.invariant-loop-first

@@ -1,5 +1,4 @@
-use Rattle.gc_job.proofs.Names.{◌≤◌}
-use Rattle.gc_job.specs.Evaluate.{IsKnownUntil}
+use Rattle.gc_job.proofs.Names.{◌≤◌, IsKnownUntil}
 use Rattle.gc_job.proofs.decode.Outputs.known_until.Given as goal
 
 abbrev pub invariant-loop-i : goal.invariant-loop-i

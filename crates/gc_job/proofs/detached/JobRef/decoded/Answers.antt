@@ -1,5 +1,4 @@
-use Rattle.gc_job.proofs.Names.{length-table}
-use Rattle.std.proofs.Common.{rules}
+use Rattle.gc_job.proofs.Names.{length-table, rules}
 use Rattle.gc_job.proofs.OutputLemmas.{decoded-job}
 use Rattle.gc_job.proofs.detached.JobRef.decoded.Goals as goal
 

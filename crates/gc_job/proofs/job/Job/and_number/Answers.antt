@@ -1,6 +1,6 @@
 use Rattle.gc_job.proofs.Names.{◌+◌, sym, ap, ◌∙◌, add-one, and_number-and, and_number-other}
-use Rattle.gc_job.proofs.job.Job.and_number.Goals as goal
 use Rattle.gc_job.proofs.job.Job.and_number.Goals.{then-is_and, else-is_and}
+use Rattle.gc_job.proofs.job.Job.and_number.Goals as goal
 
 pub loop-i-preserved : goal.loop-i-preserved
 loop-i-preserved g c =

@@ -1,5 +1,4 @@
-use Rattle.gc_job.proofs.Names.{◌≡◌, length, slice_get, Some, refl, ap, arith, and_number, is_and, row_at, and_number-below}
-use Rattle.std.proofs.lemmas.List.{get_or_read}
+use Rattle.gc_job.proofs.Names.{◌≡◌, length, slice_get, Some, refl, ap, arith, and_number, is_and, row_at, and_number-below, get_or_read}
 use Rattle.gc_job.proofs.job.Job.and_step.Goals as goal
 
 pub bounds-rows-k : goal.bounds-rows-k

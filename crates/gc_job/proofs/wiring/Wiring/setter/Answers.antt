@@ -1,5 +1,4 @@
-use Rattle.gc_job.proofs.Names.{◌≡◌, ◌<◌, ◌+◌, ◌-◌, get_or, arith, sym, ◌∙◌, IsSetBy, input_wires}
-use Rattle.std.proofs.lemmas.List.{get_or_default}
+use Rattle.gc_job.proofs.Names.{◌≡◌, ◌<◌, ◌+◌, ◌-◌, get_or, arith, sym, ◌∙◌, IsSetBy, input_wires, get_or_default}
 use Rattle.gc_job.proofs.WiringLemmas.{set_within}
 use Rattle.gc_job.proofs.wiring.Wiring.setter.Given.{Over}
 use Rattle.gc_job.proofs.wiring.Wiring.setter.Goals.{After-index-after}
