@@ -47,8 +47,7 @@ module _ (c : Netlist) (lawful : IsLawful c) (seed : List ℕ) (values : List (L
       rw honest.garbled.parts (record {
         rows = is.garbling.row_count;
         decode_bits = length-decode_bits honest.garbled.garbling
-            (omega (arith, is.wires, is.outputs, lawful.outputs_fit))
-            ∙ is.outputs;
+            (omega (arith, lawful.outputs_fit)) ∙ is.outputs;
       })
 
   -- Each file has the width of its value.

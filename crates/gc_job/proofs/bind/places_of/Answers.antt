@@ -1,4 +1,4 @@
-use Rattle.gc_job.proofs.Names.{◌≡◌, ℕ, Option, None, Some, length, take, slice_get, replicate, refl, subst, arith, slice_get_read, err_from_is_err_and, AreInOrder, of_file, get_or-replicate}
+use Rattle.gc_job.proofs.Names.{◌≡◌, ℕ, Option, None, Some, length, take, slice_get, replicate, refl, arith, slice_get_read, err_from_is_err_and, of_file, get_or-replicate}
 use Rattle.gc_job.proofs.BindLemmas.{places_none, in_order_more, places_more}
 use Rattle.gc_job.proofs.bind.places_of.Goals as goal
 
@@ -30,6 +30,5 @@ loop-i-preserved g c =
 
 pub returns-clause-in_order : goal.returns-clause-in_order
 returns-clause-in_order g c =
-    let e : c.loop-i.i ≡ length c.args.files.now = omega arith in
-    let P : ℕ → Type 0 = λ n. AreInOrder c.args.widths.now c.args.files.now n in
-    subst P e c.loop-i.invariant.in_order
+    let whole : c.loop-i.i ≡ length c.args.files.now = omega arith in
+    rw whole at c.loop-i.invariant.in_order

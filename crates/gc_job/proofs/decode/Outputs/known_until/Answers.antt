@@ -5,14 +5,16 @@ use Rattle.gc_job.proofs.decode.Outputs.known_until.Goals as goal
 
 -- The comparison says whether the label is recognised.
 compared : (c : After-is_entry-is_known) → IsTrue c.is_entry-is_known.result
-    ↔ IsRecognised c.args.self.now.and_gates c.args.self.now.entries.now c.loop-i.i c.index-labels-i.result
+    ↔ IsRecognised c.args.self.now.and_gates c.args.self.now.entries.now c.loop-i.i
+    c.index-labels-i.result
 compared c =
-    let count : length c.output_hashes-hashes.result ≡ 8 = search rules in
-    c.is_entry-is_known.ensures c.args.self.now.and_gates
-    (sym c.index-hashes-i.is
-    ∙ hash_in_part c.args.self.now.and_gates c.args.self.now.labels.now c.output_hashes-hashes.result c.args.first
-    c.args.end c.loop-i.i _ _ (omega arith) (omega arith) (omega arith) (omega arith)
-    c.index-labels-i.is c.index-hashes-i.is c.output_hashes-hashes.ensures)
+    let and_gates = c.args.self.now.and_gates in
+    let hashes = c.output_hashes-hashes.result in
+    let count : length hashes ≡ 8 = search rules in
+    c.is_entry-is_known.ensures and_gates (sym c.index-hashes-i.is
+    ∙ hash_in_part and_gates c.args.self.now.labels.now hashes c.args.first c.args.end c.loop-i.i
+    _ _ (omega arith) (omega arith) (omega arith) (omega arith) c.index-labels-i.is
+    c.index-hashes-i.is c.output_hashes-hashes.ensures)
 
 pub loop-i-preserved : goal.loop-i-preserved
 loop-i-preserved c =

@@ -3,13 +3,8 @@ use Rattle.gc_job.proofs.job.Job.active_at.Goals as goal
 
 pub evaluate_gate-requires : goal.evaluate_gate-requires
 evaluate_gate-requires g c = λ is_and.
-    let job = c.args.self.now in
-    let at : slice_get job.circuit.gates c.args.read.now.gate ≡ Some c.gate-operation.result =
+    let circuit = c.args.self.now.circuit in
+    let at : slice_get circuit.gates c.args.read.now.gate ≡ Some c.gate-operation.result =
     rw (← c.circuit.ensures.circuit) c.gate-operation.ensures in
-    omega (
-      arith,
-      and_number-below job.circuit c.args.read.now.gate c.gate-operation.result at is_and,
-      c.circuit.ensures.whole.rows,
-      c.requires.number,
-      ap length c.rows.ensures,
-    )
+    let below = and_number-below circuit c.args.read.now.gate c.gate-operation.result at is_and in
+    omega (arith, ap length c.rows.ensures)
