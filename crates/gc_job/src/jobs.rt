@@ -15,6 +15,7 @@ use std::alloc::{AllocError, Allocator};
 use std::ops::Range;
 
 /// The job at a place. The caller ensures that there is such a place.
+#[tactic(auto, using(std::proofs::lemmas::Option::gets))]
 fn job_at<A: Allocator, C: Allocator, J: AsJob<A, C>>(jobs: &[J], place: usize) -> JobRef<'_, A, C>
     requires { place < length jobs.now }
     ensures { slice_get (map J.job jobs.now) place ≡ Some result }
