@@ -35,7 +35,8 @@ impl Depths {
     /// reads wires, whose depths are below the greatest number.
     pub(crate) fn of(table: &[Depths], operation: Operation) -> Depths
         requires wires { EachRead (λ w. w < length table.now) operation }
-        requires shallow { EachRead (λ w. AreDepthsBelow u32.MAX (depths_in table.now w)) operation }
+        requires shallow { EachRead (λ w. AreDepthsBelow u32.MAX (depths_in table.now w))
+            operation }
         ensures { result ≡ depths_of (depths_in table.now) operation }
     {
         match operation {
