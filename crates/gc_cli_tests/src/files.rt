@@ -1,8 +1,8 @@
 //! The files of two honest jobs under a seed of zeros, as `vectors/reference.py` makes them.
 
 /// A full adder `c.txt`, its garbled file `g`, a label file for each of the bits 1, 0 and 1, named by its index, and a
-/// list of the job; a circuit whose last gate is AND, and the arguments of an order.
-pub static ADDER_FILES: [(&str, &[u8]); 8] = [
+/// list of the job; and a circuit whose last gate is AND.
+pub static ADDER_FILES: [(&str, &[u8]); 7] = [
     ("c.txt", ADDER),
     ("g", ADDER_GARBLED),
     (
@@ -25,7 +25,6 @@ pub static ADDER_FILES: [(&str, &[u8]); 8] = [
     ),
     ("list", b"g 0 1 2"),
     ("late.txt", b"2 4\n1 2\n1 1\n2 1 0 1 2 XOR\n2 1 2 0 3 AND\n"),
-    ("order", b"plain\nc.txt\n1\n"),
 ];
 
 const ADDER: &[u8] = b"\

@@ -13,7 +13,7 @@ use std::test::Fail;
 use std::thread::Threads;
 
 /// The command line of these arguments.
-pub fn command_line(alloc: Global, arguments: &[&str]) -> Result<Vec<String>, AllocError> {
+fn command_line(alloc: Global, arguments: &[&str]) -> Result<Vec<String>, AllocError> {
     let mut words = Vec::new(alloc);
     words.push(String::from_str(alloc, "halfgates")?)?;
     for argument in arguments {

@@ -1,6 +1,5 @@
-//! The tests of whole runs of the program over files in memory, and of commands that need what no disk gives: files
-//! that fail at each call and in mid-stream, each growth refused in turn, lists of jobs of which it is known which
-//! files were opened, streams that fail, and the steps that commands report.
+//! The tests of commands that need what no disk gives: files that fail at each call and in mid-stream, each growth
+//! refused in turn, lists of jobs of which it is known which files were opened, and the steps that commands report.
 #![tactic(auto)]
 
 #[cfg(test)]
@@ -21,5 +20,3 @@ mod jobs;
 mod progress;
 #[cfg(test)]
 mod refusals;
-#[cfg(test)]
-mod whole_runs;
