@@ -29,11 +29,10 @@ returns-in_err-matches-clause-kinds c =
     let shape = c.in_ok-halfgates.ensures.shape in
     let Fails : App → Type 0 = λ a.
     HasKind (fault_of a (map string_bytes c.args.words.now)) c.in_err-matches.field-0.0 in
-    let fails : Fails program = subst Fails shape
-    (c.in_err-matches.ensures.kinds (ap is_simple_and_free shape ∙ is_simple-program)) in
     let p = err_from_is_err_and c.from_residual-in_err-matches.result
     c.from_residual-in_err-matches.ensures.1 in
-    rw (p.1, p.2) fails
+    rw (p.1, p.2) (subst Fails shape
+    (c.in_err-matches.ensures.kinds (ap is_simple_and_free shape ∙ is_simple-program)))
 
 is_simple-alone : is_simple program ≡ true
 unfolding clap_on_literals
@@ -45,8 +44,8 @@ found-subcommand : (c : Command) (m : ArgMatches) (words : List (List ℕ)) (nam
     → Some name ≡ subcommand_name_of m → Some rows ≡ option_map (λ p. p.1) (subcommand_rows_of m)
     → subcommand_of program words ≡ Some (name, rows)
 found-subcommand c m words name rows is matches named found =
-    let simple : is_simple (app_of c) ≡ true = ap is_simple is.shape ∙ is_simple-alone in
-    ap (λ (a : App). subcommand_of a words) (sym is.shape) ∙ sym (matches simple).1
+    ap (λ (a : App). subcommand_of a words) (sym is.shape)
+    ∙ sym (matches (ap is_simple is.shape ∙ is_simple-alone)).1
     ∙ subcommand-pair _ name rows named found
 
 pub returns-clause-order : goal.returns-clause-order

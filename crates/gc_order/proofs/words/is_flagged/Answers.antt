@@ -1,4 +1,4 @@
-use Rattle.std.proofs.Common.{[], ap, ◌∙◌, unwrap_or}
+use Rattle.std.proofs.Common.{ap, ◌∙◌}
 use Rattle.clap.specs.Words.{found_of}
 use Rattle.clap.proofs.WalkLemmas.{first_value-rows}
 use Rattle.gc_order.specs.Order.{flag_in}
@@ -7,7 +7,6 @@ use Rattle.gc_order.proofs.words.is_flagged.Goals as goal
 
 pub returns : goal.returns
 returns c =
-    let found = unwrap_or-now c.get_str.result _ _ c.get_str.ensures in
     let first = first_value-rows (found_of c.args.found.now) c.args.id.now in
-    c.flag_in.ensures ∙ ap flag_in (ap (λ w. w.now) c.unwrap_or.ensures ∙ found
-    ∙ ap (λ o. unwrap_or o []) first)
+    c.flag_in.ensures
+    ∙ ap flag_in (unwrap_or-now _ _ _ _ c.unwrap_or.ensures (c.get_str.ensures ∙ first))
