@@ -1,15 +1,11 @@
 -- The subcommand that a parse enters is one of the command's.
-use Rattle.std.proofs.Common.{◌≡◌, ◌∙◌, ap, sym, refl, List, [], ◌∷◌, ℕ, Bool, true, false, cond, ◌||◌}
-use Rattle.std.specs.Prelude.{Option, Some, None, option_and_then, option_map, unwrap_or}
-use Rattle.std.specs.List.{find, list_any}
-use Rattle.std.specs.Str.{bytes_eq}
+use Rattle.gc_order.proofs.Names.{◌≡◌, ◌∙◌, ap, sym, refl, List, [], ◌∷◌, ℕ, Bool, true, false, cond, ◌||◌, Option, Some, None, option_and_then, option_map, unwrap_or, find, bytes_eq, App, Row, Shape, built, subcommand_of, program}
+use Rattle.std.specs.List.{list_any}
 use Rattle.std.proofs.Math.Bool.{or-true}
 use Rattle.std.proofs.lemmas.Slice.Eq.{bytes_eq-Decides}
-use Rattle.clap.specs.Words.{App, Row, Shape, built, subcommand_of}
 use Rattle.clap.specs.Simple.{argument_words, label_of, names_of, rows_at}
 use Rattle.clap.specs.Walk.{answers_to, stop_after}
 use Rattle.clap.proofs.OnLiterals.{clap_on_literals}
-use Rattle.gc_order.specs.Order.{program}
 
 abbrev is_one_of : List ℕ → List Shape → Bool
 is_one_of name subs = list_any (λ (s : Shape). bytes_eq name s.name) subs

@@ -1,3 +1,4 @@
+pub mod Names
 pub mod OrderLemmas
 pub mod NumberLemmas
 pub mod EnteredLemmas

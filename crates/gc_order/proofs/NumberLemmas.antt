@@ -1,12 +1,10 @@
 -- The number that a word of a command line spells is what `parse` reads.
-use Rattle.std.proofs.Common.{◌≡◌, ℕ, ◌<◌, ◌^◌, Bool, true, false, List, Result, Ok, Err, refl, arith}
-use Rattle.std.specs.Prelude.{if◌then◌else◌}
+use Rattle.gc_order.proofs.Names.{◌≡◌, ℕ, ◌<◌, ◌^◌, Bool, true, false, List, Result, Ok, Err, refl, arith, if◌then◌else◌, number_in}
 use Rattle.std.specs.Result.{result_unwrap_or}
 use Rattle.std.specs.Str.Parse.{ParsesUnsigned, digits_value, without_leading_plus}
 use Rattle.clap.specs.ValueTests.{accepts}
 use Rattle.clap.specs.declared.builder.value_parser.ValueParser.TheVariants.{Unsigned}
 use Rattle.clap.proofs.ValueTestLemmas.{accepts-Accepts, Accepts-accepts}
-use Rattle.gc_order.specs.Order.{number_in}
 
 refused : (b : Bool) (n : ℕ) → (b ≡ true → ⊥) → 0 ≡ (if b then n else 0)
 refused true n other = absurd (other refl)

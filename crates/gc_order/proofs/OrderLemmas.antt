@@ -1,8 +1,6 @@
 -- What clap found in a line.
-use Rattle.std.proofs.Common.{◌≡◌, List, ℕ, Option, Some, None, option_map, unwrap_or, Bor}
-use Rattle.std.specs.Prelude.{Box}
+use Rattle.gc_order.proofs.Names.{◌≡◌, List, ℕ, Option, Some, None, option_map, unwrap_or, Bor, Box, Row, subcommand_rows}
 use Rattle.std.specs.Box.{box_value}
-use Rattle.clap.specs.Words.{Row, subcommand_rows}
 use Rattle.clap.specs.declared.parser.matches.SubCommand.{SubCommand}
 use Rattle.clap.specs.declared.parser.matches.ArgMatches.TheViews.{out-SubCommand}
 

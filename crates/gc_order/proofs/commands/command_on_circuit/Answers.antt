@@ -1,7 +1,4 @@
-use Rattle.std.proofs.Common.{rules}
-use Rattle.std.specs.Prelude.{IfOk, codes}
-use Rattle.clap.specs.Words.{new_app, with_rule}
-use Rattle.gc_order.specs.Order.{HasShape, required_word}
+use Rattle.gc_order.proofs.Names.{rules, IfOk, codes, new_app, with_rule, HasShape, required_word}
 use Rattle.gc_order.proofs.commands.command_on_circuit.Goals as goal
 
 pub returns : goal.returns

@@ -1,6 +1,4 @@
-use Rattle.std.proofs.Common.{rules}
-use Rattle.std.specs.Prelude.{codes}
-use Rattle.gc_order.specs.Order.{HasRule, number_word}
+use Rattle.gc_order.proofs.Names.{rules, codes, HasRule, number_word}
 use Rattle.gc_order.proofs.commands.deal.Goals as goal
 
 pub returns : goal.returns

@@ -1,4 +1,4 @@
-use Rattle.std.proofs.lemmas.Result.{IfOk-weaker}
+use Rattle.gc_order.proofs.Names.{IfOk-weaker}
 use Rattle.gc_order.proofs.commands.halfgates.Goals as goal
 
 pub returns : goal.returns

@@ -1,14 +1,10 @@
-use Rattle.std.proofs.Common.{◌≡◌, ap, ◌∙◌, sym, subst, refl, true, false, ℕ, List, Option, Some, map, option_map, string_bytes}
-use Rattle.std.specs.Prelude.{codes, option_and_then}
+use Rattle.gc_order.proofs.Names.{◌≡◌, ap, ◌∙◌, sym, subst, refl, true, false, ℕ, List, Option, Some, map, option_map, string_bytes, codes, option_and_then, err_from_is_err_and, App, HasKind, HasMatchesOf, Row, app_of, fault_of, is_simple, subcommand_of, subcommand_rows_of, HasShape, command_in, flag_in, program, word_of}
 use Rattle.std.specs.Option.{option_map_or}
-use Rattle.std.proofs.lemmas.Result.{err_from_is_err_and}
 use Rattle.clap.specs.Matches.{subcommand_name_of}
-use Rattle.clap.specs.Words.{App, HasKind, HasMatchesOf, Row, app_of, fault_of, is_simple, subcommand_of, subcommand_rows_of}
 use Rattle.clap.specs.Faults.{is_simple_and_free}
 use Rattle.clap.specs.declared.builder.command.Command.{Command}
 use Rattle.clap.specs.declared.parser.matches.ArgMatches.{ArgMatches}
 use Rattle.clap.proofs.OnLiterals.{clap_on_literals}
-use Rattle.gc_order.specs.Order.{HasShape, command_in, flag_in, program, word_of}
 use Rattle.gc_order.proofs.EnteredLemmas.{entered-one_of}
 use Rattle.gc_order.proofs.OrderLemmas.{subcommand-pair}
 use Rattle.gc_order.proofs.order.asked_of.Goals as goal

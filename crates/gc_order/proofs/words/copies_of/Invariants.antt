@@ -1,4 +1,4 @@
-use Rattle.std.proofs.Common.{◌≡◌, map, take, string_bytes}
+use Rattle.gc_order.proofs.Names.{◌≡◌, map, take, string_bytes}
 use Rattle.gc_order.proofs.words.copies_of.Given as goal
 
 abbrev pub invariant-loop-word : goal.invariant-loop-word

@@ -1,7 +1,4 @@
-use Rattle.std.proofs.Common.{ap, ◌∙◌}
-use Rattle.clap.specs.Words.{found_of}
-use Rattle.clap.proofs.WalkLemmas.{first_value-rows}
-use Rattle.gc_order.specs.Order.{flag_in}
+use Rattle.gc_order.proofs.Names.{ap, ◌∙◌, found_of, first_value-rows, flag_in}
 use Rattle.gc_order.proofs.OrderLemmas.{unwrap_or-now}
 use Rattle.gc_order.proofs.words.is_flagged.Goals as goal
 

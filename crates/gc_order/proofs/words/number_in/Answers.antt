@@ -1,4 +1,4 @@
-use Rattle.std.proofs.Common.{◌∙◌}
+use Rattle.gc_order.proofs.Names.{◌∙◌}
 use Rattle.gc_order.proofs.NumberLemmas.{number-parsed}
 use Rattle.gc_order.proofs.words.number_in.Goals as goal
 

@@ -1,7 +1,4 @@
-use Rattle.std.proofs.Common.{◌∙◌}
-use Rattle.std.proofs.lemmas.Result.{IfOk-weaker}
-use Rattle.clap.specs.Words.{found_of}
-use Rattle.clap.proofs.WalkLemmas.{first_value-rows}
+use Rattle.gc_order.proofs.Names.{◌∙◌, IfOk-weaker, found_of, first_value-rows}
 use Rattle.gc_order.proofs.OrderLemmas.{unwrap_or-now}
 use Rattle.gc_order.proofs.words.word_of.Goals as goal
 

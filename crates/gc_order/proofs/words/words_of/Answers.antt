@@ -1,7 +1,4 @@
-use Rattle.std.proofs.Common.{[], ap, ◌∙◌, map, unwrap_or, string_bytes}
-use Rattle.std.proofs.lemmas.Result.{IfOk-weaker}
-use Rattle.clap.specs.Words.{found_of}
-use Rattle.clap.proofs.WalkLemmas.{raw_values-rows}
+use Rattle.gc_order.proofs.Names.{[], ap, ◌∙◌, map, unwrap_or, string_bytes, IfOk-weaker, found_of, raw_values-rows}
 use Rattle.gc_order.proofs.words.words_of.Goals as goal
 
 pub returns-in-Some : goal.returns-in-Some
