@@ -1,13 +1,12 @@
 -- What the steps of a command hand on to the next.
-use Rattle.gc_command.proofs.Names.{◌≡◌, ℕ, Bool, List, length, Option, Some, None, sum, sym, ap, ◌∙◌, length-map-range_with_len, IfSome_then, Netlist, IsLawful, output_wires, AreOutputs, GarbledParts, LabelFileParts, DecodeTo}
-use Rattle.std.specs.Prelude.{IfSome}
-use Rattle.gc_disk.specs.Files.{GivesFile}
-use Rattle.gc_job.specs.Job.{JobParts}
+use Rattle.gc_command.proofs.Names.{◌≡◌, ℕ, Bool, List, [], ◌∷◌, map, refl, ap₂, SpellValues, value_text_law, length, Option, Some, None, sum, sym, ap, ◌∙◌, length-map-range_with_len, Netlist, IsLawful, output_wires, AreOutputs, GarbledParts, LabelFileParts, DecodeTo, IfSome, Result, Ok, Err, IfErr, IsErrAnd, GivesFile, JobParts}
 use Rattle.gc_job.proofs.OutputLemmas.{bound-whole, length-evaluated}
 
-pub IfSome-map : {T : Type 0} (o : Option T) (P Q : T → Type 0) → ((x : T) → P x → Q x) → IfSome o P
-    → IfSome o Q
-IfSome-map o P Q f h = IfSome_then o h f
+-- What the exit of a `?` returns has what is known of its error.
+pub IfErr-exit : {T E : Type 0} (r : Result T E) (e : E) (P : E → Type 0)
+    → IsErrAnd r (λ y. y ≡ e) → P e → IfErr r P
+IfErr-exit (Ok x) e P is p = tt
+IfErr-exit (Err y) e P is p = rw is p
 
 -- What is found of the bytes that were read of a file is so where its bytes are known.
 pub found_where_known : (P : List ℕ → Type 0) (known : Option (List ℕ)) (held : List ℕ)
@@ -27,3 +26,14 @@ pub length-decoded : (c : Netlist) → IsLawful c → (g : GarbledParts) (files 
 length-decoded c lawful g files bits is =
     sym (length-evaluated is.job (bound-whole c lawful g files is.job is.bound) bits is.evaluated
     ∙ ap (λ (j : JobParts). output_wires j.circuit) is.bound.parts)
+
+-- Values that texts spell have their widths.
+pub SpellValues-widths : (widths : List ℕ) (texts : List (List ℕ)) (values : List (List Bool))
+    → SpellValues widths texts values → map length values ≡ widths
+SpellValues-widths [] [] [] spelled = refl
+SpellValues-widths (w ∷ widths) (t ∷ texts) (v ∷ values) spelled =
+    let value = ((value_text_law t w).value v).0 spelled.0 in
+    ap₂ (λ n ns. n ∷ ns)
+    (ap length value.in_wire_order ∙ length-map-range_with_len _ 0 w)
+    (SpellValues-widths widths texts values spelled.1)
+SpellValues-widths _ _ _ spelled = absurd spelled

@@ -36,13 +36,11 @@ module _ (bytes : FileBytes) (Failed : List ℕ → Type 0) where
   labels-memory (name ∷ names) = inl tt
 
 -- A fault of the files' job is one of `eval`.
-pub job-fault : (bytes : FileBytes) (Failed : List ℕ → Type 0) (circuit garbled : List ℕ)
-    (workers : ℕ) (labels : List (List ℕ)) (c : Netlist) (g : GarbledParts)
-    (files : List LabelFileParts) → AreEvalFiles bytes circuit garbled labels c g files
+pub job-fault : {bytes : FileBytes} {circuit garbled : List ℕ} {labels : List (List ℕ)} {c : Netlist}
+    {g : GarbledParts} {files : List LabelFileParts} (Failed : List ℕ → Type 0) (workers : ℕ)
+    → AreEvalFiles bytes circuit garbled labels c g files
     → (fault : Fault) → HasJobFault c g files workers fault
     → HasEvalFault bytes Failed circuit garbled workers labels fault
-job-fault bytes Failed circuit garbled workers labels c g files read (faults.Binding fault) has =
-    (c, (g, (files, (read, has))))
-job-fault bytes Failed circuit garbled workers labels c g files read (faults.Evaluation fault) has =
-    (c, (g, (files, (read, has))))
-job-fault bytes Failed circuit garbled workers labels c g files read fault has = absurd has
+job-fault Failed workers read (faults.Binding fault) has = (_, (_, (_, (read, has))))
+job-fault Failed workers read (faults.Evaluation fault) has = (_, (_, (_, (read, has))))
+job-fault Failed workers read fault has = absurd has

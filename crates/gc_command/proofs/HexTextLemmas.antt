@@ -1,19 +1,11 @@
 -- The hexadecimal texts of values: how one is made byte by byte, and that it is read as the value.
-use Rattle.std.proofs.Common.{◌≡◌, ℕ, zero, suc, ◌+◌, ◌*◌, ◌/◌, ◌%◌, ◌^◌, ◌<◌, ◌≤◌, ◌==◌, inl, inr, min, Bool, true, false, List, [], ◌∷◌, ◌++◌, length, map, take, drop, get_or, slice_index, Ok, refl, sym, ap, ◌∙◌, arith, codes}
-use mathlib.Core.Path.{fun_ext}
-use Rattle.std.specs.List.{range_with_len, list_all}
-use Rattle.std.specs.Int.{bit_at}
+use Rattle.gc_command.proofs.Names.{◌≡◌, ℕ, zero, suc, ◌+◌, ◌*◌, ◌/◌, ◌%◌, ◌^◌, ◌<◌, ◌≤◌, ◌==◌, inl, inr, min, Bool, true, false, List, [], ◌∷◌, ◌++◌, length, map, take, drop, get_or, slice_index, Ok, refl, sym, ap, ◌∙◌, arith, codes, fun_ext, range_with_len, list_all, bit_at, cases_lt, drop-drop, drop_min, take_min, get_or_past, length-take, length-drop, fill_by_all, get_or-map-range_with_len, IsBytes, encode_lower, is_hex_digit, lower_digits, Hexadecimal, byte_at, value_of_text, wire_bit, value_text_law, bits_number, bytes_for, bit_in}
 use Rattle.std.proofs.Math.Nat.{pow-suc}
-use Rattle.std.proofs.lemmas.Bool.{cases_lt}
-use Rattle.std.proofs.lemmas.List.{drop-drop, drop_all, get_or_past, length-take, length-drop, take_all}
-use Rattle.std.proofs.lemmas.List.FromFn.{fill_by_all, get_or-map-range_with_len}
 use Rattle.std.proofs.lemmas.Nat.{pow_pos}
 use Rattle.std.proofs.lemmas.Nat.Bits.{bit_at-zero, bit_at_above}
-use Rattle.hex.specs.Hex.{IsBytes, encode_lower, encode_with, is_hex_digit, lower_digits}
+use Rattle.hex.specs.Hex.{encode_with}
 use Rattle.hex.proofs.HexLemmas.{IsDigits, IsDigits-lower_digits, length-encode_with}
-use Rattle.gc_circuit.specs.Value.{Hexadecimal, byte_at, value_of_text, wire_bit}
-use Rattle.gc_circuit.proofs.ValueLemmas.{value_text_law}
-use Rattle.gc_file.specs.DecodeBits.{bits_number, bytes_for, packed, bit_in}
+use Rattle.gc_file.specs.DecodeBits.{packed}
 use Rattle.gc_file.proofs.PackLemmas.{length-packed, unpacked-packed}
 
 -- ---- bytes of bits
@@ -62,15 +54,9 @@ packed-none (b ∷ bits) none = absurd (omega arith)
 -- What a loop takes of a list at once, eight elements or all, is the first eight.
 pub first_eight : (bits : List Bool) (n : ℕ) → n ≡ min (length bits) 8
     → (take n bits ≡ take 8 bits) × (drop n bits ≡ drop 8 bits)
-first_eight bits n is = elim (cases_lt (length bits) 8) [
-  | inl short ↦ (
-    take_all n bits (omega arith) ∙ sym (take_all 8 bits (omega arith)),
-    drop_all n bits (omega arith) ∙ sym (drop_all 8 bits (omega arith)),
-  )
-  | inr long ↦ (
-      let all : n ≡ 8 = omega arith in
-      (ap (λ m. take m bits) all, ap (λ m. drop m bits) all))
-]
+first_eight bits n is =
+    let least : n ≡ min 8 (length bits) = omega arith in
+    (rw least (take_min 8 bits), rw least (drop_min 8 bits))
 
 packed-bytes : (bits : List Bool) → IsBytes (packed bits)
 packed-bytes bits k = elim (cases_lt k (bytes_for (length bits))) [

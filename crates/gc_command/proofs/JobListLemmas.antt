@@ -1,8 +1,5 @@
 -- The lines and the words of a list of jobs.
-use Rattle.gc_command.proofs.JobsNames.{◌≡◌, ℕ, zero, suc, ◌+◌, ◌<◌, ◌≤◌, ◌==◌, ◌++◌, Bool, true, false, cond, not, List, [], ◌∷◌, All, length, map, filter, take, drop, drop-cons, get_or, slice_get, Some, refl, sym, ap, arith, slice_split, position_or_len, get_or-map, drop_all, length-drop, length-map, map-append, take_more, slice_get-get_or, is_blank, is_some_run, tokens, tokens-nil, tokens_begin, has_words}
-use Rattle.std.specs.Str.{IsUtf8, IsCharBoundary}
-use Rattle.std.proofs.lemmas.Bool.Decides.{nat_tests}
-use Rattle.std.proofs.lemmas.List.Elements.{All-filter, All-push}
+use Rattle.gc_command.proofs.Names.{◌≡◌, ℕ, zero, suc, ◌+◌, ◌<◌, ◌≤◌, ◌==◌, ◌++◌, Bool, true, false, not, List, [], ◌∷◌, All, length, map, filter, take, drop, drop-cons, get_or, refl, sym, ap, arith, slice_split, position_or_len, get_or-map, drop_all, length-drop, length-map, map-append, take_more, is_blank, is_some_run, tokens, tokens-nil, tokens_begin, has_words, IsUtf8, IsCharBoundary, nat_tests, All-cons, All-filter, All-map, All-nil, All-push, All-same, All-weaker, filter_passes}
 use Rattle.std.proofs.lemmas.List.Splits.{slice_split_first, slice_split_none}
 use Rattle.std.proofs.lemmas.List.Sums.{passes_at_first, fails_before_first}
 use Rattle.std.proofs.lemmas.Str.{IsUtf8-take, IsUtf8-drop, IsCharBoundary-after_ascii}
@@ -25,49 +22,23 @@ pub no_word : (line : List ℕ) (i : ℕ) → length line ≤ i → tokens (drop
     → has_words (tokens line) ≡ false
 no_word line i past same = rw (← same, drop_all i line past, tokens-nil) refl
 
--- a function of what references show
-pub map-shown : {X Y Z : Type 0} (v : X → Y) (f : Y → Z) (xs : List X)
-    → map (λ x. f (v x)) xs ≡ map f (map v xs)
-map-shown v f [] = refl
-map-shown v f (x ∷ xs) = rw (map-shown v f xs) refl
-
 some_words : (words : List (List ℕ)) → has_words words ≡ true → 0 < length words
 some_words words e = grind arith
 
 -- Each line that is listed has a word.
-abbrev pub HaveWords : List (List ℕ) → Type 0
-HaveWords lines =
-    (k : ℕ) (d : List (List ℕ)) → k < length (map tokens lines)
-    → 0 < length (get_or (map tokens lines) k d)
-
-one_has_words : (line : List ℕ) (lines : List (List ℕ)) (b : Bool)
-    → has_words (tokens line) ≡ b → HaveWords lines → HaveWords (cond b (line ∷ lines) lines)
-one_has_words line lines true e others zero d within = some_words (tokens line) e
-one_has_words line lines true e others (suc k) d within = others k d (omega arith)
-one_has_words line lines false e others k d within = others k d within
-
-pub all_have_words : (lines : List (List ℕ))
-    → HaveWords (filter (λ line. has_words (tokens line)) lines)
-all_have_words [] k d within = absurd (omega arith)
-all_have_words (line ∷ lines) k d within =
-    one_has_words line _ (has_words (tokens line)) refl (all_have_words lines) k d within
-
-part_at : (P : List ℕ → Type 0) (first : List ℕ) (others parts : List (List ℕ))
-    → parts ≡ first ∷ others → P first
-    → ((k : ℕ) (part : List ℕ) → slice_get others k ≡ Some part → P part)
-    → (k : ℕ) (part : List ℕ) → slice_get parts k ≡ Some part → P part
-part_at P first others parts e here later zero part at =
-    let first_at = rw e at at in
-    let same : part ≡ first = cc in
-    rw same here
-part_at P first others parts e here later (suc k) part at = later k part (rw e at at)
+pub all_have_words : (lines : List (List ℕ)) → All (λ words. 0 < length words)
+    (map tokens (filter (λ line. has_words (tokens line)) lines))
+all_have_words lines =
+    let some = filter (λ line. has_words (tokens line)) lines in
+    All-map (λ words. 0 < length words) tokens some
+    (All-weaker (λ line. has_words (tokens line) ≡ true) (λ line. 0 < length (tokens line))
+    (λ line has. some_words (tokens line) has) some (filter_passes _ lines))
 
 -- A text that is UTF-8, cut at ASCII bytes, is UTF-8 in each part.
 utf8_parts : (p : ℕ → Bool) → ((b : ℕ) → p b ≡ true → b < 128) → (n : ℕ) (bs : List ℕ)
-    → length bs < n → IsUtf8 bs
-    → (k : ℕ) (part : List ℕ) → slice_get (slice_split p bs) k ≡ Some part → IsUtf8 part
-utf8_parts p ascii zero bs short utf8 k part at = absurd (omega (arith, short))
-utf8_parts p ascii (suc n) bs short utf8 k part at =
+    → length bs < n → IsUtf8 bs → All IsUtf8 (slice_split p bs)
+utf8_parts p ascii zero bs short utf8 = absurd (omega (arith, short))
+utf8_parts p ascii (suc n) bs short utf8 =
     let i = position_or_len p bs in
     dite (dec_le (suc i) (length bs))
     (λ room.
@@ -77,13 +48,13 @@ utf8_parts p ascii (suc n) bs short utf8 k part at =
     (omega arith, λ inside high. absurd (omega (arith, byte, high))) in
     let rest : IsUtf8 (drop (i + 1) bs) =
     IsUtf8-drop bs (i + 1) utf8 (IsCharBoundary-after_ascii bs i utf8 here byte) in
-    part_at IsUtf8 (take i bs) (slice_split p (drop (i + 1) bs)) (slice_split p bs)
-    (slice_split_first p bs 0 here) (IsUtf8-take bs i utf8 starts)
-    (utf8_parts p ascii n (drop (i + 1) bs) (omega (arith, length-drop (i + 1) bs)) rest) k part at)
+    All-same IsUtf8 _ _ (slice_split_first p bs 0 here)
+    (All-cons IsUtf8 (take i bs) _ (IsUtf8-take bs i utf8 starts)
+    (utf8_parts p ascii n (drop (i + 1) bs) (omega (arith, length-drop (i + 1) bs)) rest)))
     (λ none.
-    part_at IsUtf8 bs [] (slice_split p bs)
-    (slice_split_none p bs (λ j d within. fails_before_first p bs j d (omega arith))) utf8
-    (λ j other no. absurd (cc)) k part at)
+    All-same IsUtf8 _ _
+    (slice_split_none p bs (λ j d within. fails_before_first p bs j d (omega arith)))
+    (All-cons IsUtf8 bs [] utf8 (All-nil IsUtf8)))
 
 blank_is_ascii : (b : ℕ) → is_blank b ≡ true → b < 128
 blank_is_ascii b blank = grind (arith, nat_tests)
@@ -92,9 +63,8 @@ blank_is_ascii b blank = grind (arith, nat_tests)
 utf8_tokens : (line : List ℕ) → IsUtf8 line → All IsUtf8 (tokens line)
 unfolding tokens
 utf8_tokens line utf8 =
-    All-filter is_some_run IsUtf8 (slice_split is_blank line)
-    (λ k d within. utf8_parts is_blank blank_is_ascii (length line + 1) line (omega arith) utf8 k _
-    (slice_get-get_or (slice_split is_blank line) k d within))
+    All-filter is_some_run IsUtf8 _
+    (utf8_parts is_blank blank_is_ascii (length line + 1) line (omega arith) utf8)
 
 -- A part that is not empty is a run.
 pub is_run : (part : List ℕ) → not (length part == 0) ≡ is_some_run part

@@ -1,9 +1,7 @@
 -- From what each step of `jobs` returns to what it returns as a whole.
-use Rattle.gc_command.proofs.JobsNames.{◌≡◌, ℕ, ◌+◌, ◌<◌, map, drop, drop-cons, get_or, Bool, List, [], ◌∷◌, IfSome, sum, inl, inr, length, slice_get, Some, sym, ap, ◌∙◌, zero, suc, refl, add-one, arith, slice_get_within, slice_get_cases, JobParts, AreEvaluated, AreOnOneCircuit, FileBytes, GivesFile, Fault, IsJobList, listed, NameJob, HasNamedFault, NameJobs, FirstBadJob, HasLinesFault, HasListFault, HasJobsFault}
-use Rattle.std.specs.Prelude.{All, slice_index_or}
-use Rattle.gc_netlist.specs.Circuit.{Netlist, IsLawful}
+use Rattle.gc_command.proofs.Names.{◌≡◌, ℕ, ◌+◌, ◌<◌, map, drop, drop-cons, get_or, Bool, List, [], ◌∷◌, IfSome, sum, inl, inr, length, slice_get, Some, sym, ap, ◌∙◌, zero, suc, refl, add-one, arith, slice_get_within, slice_get_cases, JobParts, AreOnOneCircuit, FileBytes, GivesFile, Fault, IsJobList, listed, NameJob, NameJobs, FirstBadJob, HasLinesFault, HasListFault, HasJobsFault, All, slice_index_or, Netlist, IsLawful, IsCircuit, HasReadingFault}
+use Rattle.gc_job.specs.Jobs.{AreEvaluated}
 use Rattle.gc_command.specs.declared.fault.Fault.TheVariants as faults
-use Rattle.gc_command.specs.CircuitFile.{IsCircuit, HasReadingFault}
 use Rattle.gc_command.proofs.AnswerLemmas.{length-decoded}
 
 -- The words of a line are the first one and the others.
@@ -13,16 +11,16 @@ pub parted : {X : Type 0} {words shown others : List X} {first : X} → shown �
 parted same parts v are = sym are ∙ ap (map v) (sym same ∙ parts)
 
 module _ (bytes : FileBytes) (Failed : List ℕ → Type 0) where
-  -- The fault of a line that names no job is that of the lines,
-  pub lines-fault : (c : Netlist) (words : List (List ℕ)) (lines all : List (List (List ℕ)))
-      (fault : Fault)
-      → (FirstBadJob bytes Failed c (words ∷ lines) fault → FirstBadJob bytes Failed c all fault)
-      → HasNamedFault bytes Failed c words fault → HasLinesFault bytes Failed c all fault
-  lines-fault c words lines all (faults.File fault) up has = up (inl has)
-  lines-fault c words lines all (faults.Binding fault) up has = up (inl has)
-  lines-fault c words lines all faults.CannotRead up has = up (inl has)
-  lines-fault c words lines all faults.Memory up has = tt
-  lines-fault c words lines all fault up has = absurd has
+  -- The fault of the first line that names no job is that of the lines,
+  pub lines-fault : (c : Netlist) (lines : List (List (List ℕ))) (fault : Fault)
+      → FirstBadJob bytes Failed c lines fault → HasLinesFault bytes Failed c lines fault
+  lines-fault c lines (faults.File fault) bad = bad
+  lines-fault c lines (faults.Binding fault) bad = bad
+  lines-fault c lines faults.CannotRead bad = bad
+  lines-fault c lines faults.Memory bad = tt
+  lines-fault c [] fault bad = absurd bad
+  lines-fault c (words ∷ lines) fault (inl here) = absurd here
+  lines-fault c (words ∷ lines) fault (inr later) = absurd (lines-fault c lines fault later.2)
 
   -- that of the lines of a list is the list's,
   pub list-fault : (list text : List ℕ) (c : Netlist) → GivesFile (bytes list) text → IsJobList text

@@ -1,7 +1,8 @@
 -- The files that a run makes for itself are honest.
-use Rattle.gc_command.proofs.Names.{◌≡◌, ℕ, ◌+◌, ◌<◌, ◌^◌, ◌++◌, ◌∙◌, Bool, List, [], ◌∷◌, length, map, take, get_or, slice_get, Some, inl, inr, length-append, refl, arith, common_steps, length-take-le, slice_get-map, slice_get_within, slice_get-get_or, slice_get_read, gets, Netlist, IsLawful, Fits, GarbledParts, IsGarbledFile, LabelFileParts, IsLabelFile, label_file, label_parts_of, honest_parts, one_file, IsHonestGarbled, AreHonestFiles, AreGarbledBytes, AreLabelFilesOf}
-use Rattle.std.proofs.lemmas.Bool.{cases_eq}
-use Rattle.gc_half.proofs.CanonicalLemmas.{IsGarbled-same}
+use Rattle.gc_command.proofs.Names.{◌≡◌, ◌≢◌, ℕ, ◌+◌, ◌<◌, ◌^◌, ◌++◌, ◌∙◌, Bool, List, [], ◌∷◌, length, map, take, get_or, slice_get, Some, inl, inr, refl, arith, common_steps, length-take-le, slice_get-map, slice_get_within, slice_get-get_or, slice_get_read, gets, Netlist, IsLawful, Fits, GarbledParts, IsGarbledFile, LabelFileParts, IsLabelFile, label_file, label_parts_of, honest_parts, one_file, IsHonestGarbled, AreHonestFiles, AreGarbledBytes, AreLabelFilesOf, cases_eq, IsGarbled-same}
+use Rattle.gc_command.proofs.Names.{length-append}
+use Rattle.gc_file.specs.declared.fault.FileFault.{FileFault}
+use Rattle.gc_file.specs.declared.fault.FileFault.TheVariants as file
 use Rattle.gc_file.specs.declared.parts.Version.TheVariants.{Two}
 use Rattle.gc_file.proofs.WrittenFiles.{are_files}
 use Rattle.gc_job.proofs.TakeLemmas.{slice_get-take, slice_get_taken}
@@ -102,3 +103,9 @@ own-honest {c} {seed} {values} {g} {files} fits garbled are = record {
         let bits = slice_get-get_or values i [] (omega (arith, are.count)) in
         let is = are.each i (get_or values i []) bits in
         (bits, cc)
+
+-- Where no fault holds, one that holds unless it is Memory is Memory.
+pub file-memory : (Holds : FileFault → Type 0) → ((e : FileFault) → Holds e → ⊥) → (e : FileFault)
+    → (e ≢ file.Memory → Holds e) → e ≡ file.Memory
+file-memory Holds none file.Memory h = refl
+file-memory Holds none e h = absurd (none e (h (λ same. cc)))

@@ -1,11 +1,10 @@
 -- From what each step of a run returns to what it returns as a whole.
-use Rattle.gc_command.proofs.Names.{ℕ, List, Bool, Ok, Err, flat_map, refl, arith, Netlist, IsLawful, AreOutputs, GarbledParts, LabelFileParts, FirstBindFault, AreHonestFiles, HonestFilesLaw, Fault, DecodeTo, HasJobFault, AreFew}
+use Rattle.gc_command.proofs.Names.{ℕ, List, Bool, Ok, Err, flat_map, refl, arith, Netlist, IsLawful, AreOutputs, GarbledParts, LabelFileParts, AreHonestFiles, HonestFilesLaw, Fault, DecodeTo, HasJobFault, AreFew, IsInput}
+use Rattle.gc_job.specs.declared.fault.BindFault.TheVariants as bind
 use Rattle.gc_job.specs.declared.fault.EvalFault.TheVariants as eval
 use Rattle.gc_job.proofs.HonestFiles.{honest-files}
 use Rattle.gc_command.specs.declared.fault.Fault.TheVariants as faults
-use Rattle.gc_command.specs.Input.{IsInput}
 use Rattle.gc_command.specs.Run.{IsFilesMemoryFault, IsRunFault}
-use Rattle.gc_command.proofs.FaultLemmas.{bind-memory}
 
 module _ {c : Netlist} (lawful : IsLawful c) {seed : List ℕ} {values : List (List Bool)}
     {g : GarbledParts} {files : List LabelFileParts}
@@ -20,8 +19,8 @@ module _ {c : Netlist} (lawful : IsLawful c) {seed : List ℕ} {values : List (L
 
   -- and only memory may be missing.
   pub honest-fault : (fault : Fault) → HasJobFault c g files 1 fault → IsFilesMemoryFault fault
-  honest-fault (faults.Binding fault) has =
-      bind-memory (FirstBindFault c g files) law.no_fault fault has
+  honest-fault (faults.Binding bind.Memory) has = refl
+  honest-fault (faults.Binding fault) has = absurd (law.no_fault fault (has (λ same. cc)))
   honest-fault (faults.Evaluation eval.BadWorkers) has = absurd (grind (arith, has.2))
   honest-fault (faults.Evaluation eval.Memory) has = refl
   honest-fault (faults.Evaluation (eval.UnknownOutputLabel output)) has =

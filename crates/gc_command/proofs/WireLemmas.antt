@@ -1,31 +1,11 @@
 -- The wires of a circuit that are set, one after another.
-use Rattle.std.proofs.Common.{◌≡◌, ℕ, zero, suc, ◌+◌, ◌-◌, ◌<◌, ◌≤◌, ◌++◌, Bool, true, false, List, [], ◌∷◌, length, count_by, map, take, filter, set, get_or, slice_get, slice_index_or, Some, refl, arith}
-use Rattle.std.specs.List.{range_with_len}
-use Rattle.std.proofs.lemmas.Grind.{common_steps}
-use Rattle.std.proofs.lemmas.Option.{slice_get_within, get_or_from_slice_get, gets}
-use Rattle.std.proofs.lemmas.List.{take_more}
-use Rattle.std.proofs.lemmas.List.FromFn.{get_or-map-range_with_len, length-map-range_with_len}
+use Rattle.gc_command.proofs.Names.{◌≡◌, ℕ, zero, suc, ◌+◌, ◌-◌, ◌<◌, ◌≤◌, ◌++◌, Bool, true, false, List, [], ◌∷◌, length, count_by, map, take, filter, set, get_or, slice_get, slice_index_or, Some, refl, arith, range_with_len, common_steps, slice_get_within, get_or_from_slice_get, gets, take_more, get_or-map-range_with_len, length-map-range_with_len, Netlist, input_wires, is_and, is_set, WiresLeft, set_from, marked_more, marks_len}
 use Rattle.gc_netlist.specs.declared.gate.Gate.{Gate}
-use Rattle.gc_netlist.specs.Circuit.{Netlist, input_wires, is_and}
-use Rattle.gc_netlist.specs.Reading.{is_set}
-use Rattle.gc_command.specs.Labels.{WiresLeft, set_from}
 use Rattle.gc_circuit.specs.Gates.{AreMarked}
-use Rattle.gc_circuit.proofs.CheckLemmas.{marked_more, marks_len}
 
-module _ (test : ℕ → Bool) where
-  opened : (i n : ℕ) → i < n → range_with_len i (n - i) ≡ i ∷ range_with_len (i + 1) (n - (i + 1))
-  opened i n below = let e : n - i ≡ suc (n - (i + 1)) = omega arith in rw e refl
-
-  -- a wire that is passed over
-  pub passed : (i n : ℕ) → i < n → test i ≡ false
-      → filter test (range_with_len i (n - i)) ≡ filter test (range_with_len (i + 1) (n - (i + 1)))
-  passed i n below not = rw (opened i n below, not) refl
-
-  -- a wire that is given
-  pub given : (i n : ℕ) → i < n → test i ≡ true
-      → filter test (range_with_len i (n - i))
-      ≡ i ∷ filter test (range_with_len (i + 1) (n - (i + 1)))
-  given i n below is = rw (opened i n below, is) refl
+-- the first of the wires that are left, and the others
+pub opened : (i n : ℕ) → i < n → range_with_len i (n - i) ≡ i ∷ range_with_len (i + 1) (n - (i + 1))
+opened i n below = let e : n - i ≡ suc (n - (i + 1)) = omega arith in rw e refl
 
 -- the flag of a wire, read
 pub flag_read : (flags : List Bool) (w : ℕ) (b : Bool) → w < length flags → b ≡ get_or flags w b

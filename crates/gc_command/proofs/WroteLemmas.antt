@@ -1,14 +1,15 @@
 -- What a command returns where its file is written, and where it can't be.
-use Rattle.gc_command.proofs.Names.{◌≡◌, ℕ, Bool, List, Option, Some, None, length, sym, ap, ◌∙◌, length-map-range_with_len, Netlist, value_text_law, Fault, IsInputValue, AreFew}
-use Rattle.std.specs.Prelude.{IfSome}
-use Rattle.std.specs.List.{slice_get}
-use Rattle.gc_half.specs.Garbling.{GarblingParts, IsGarbled, FitsCircuit}
+use Rattle.gc_command.proofs.Names.{◌≡◌, ℕ, Bool, List, Option, Some, None, length, sym, ap, ◌∙◌, length-map-range_with_len, Netlist, value_text_law, Fault, IsInputValue, AreFew, IfSome, slice_get, IsCircuit, HasCause, IsGarbleInput, HasGarbleFault}
 use Rattle.gc_command.specs.declared.fault.Fault.TheVariants as faults
 use Rattle.gc_command.specs.Wrote.{HasWritten, IsUnwritten, wrote_line}
 use Rattle.gc_command.specs.Deal.{IsDealInput, HasDealFault}
-use Rattle.gc_command.specs.CircuitFile.{IsCircuit}
 use Rattle.gc_command.specs.Order.{HasOrderFault}
-use Rattle.gc_command.specs.Garble.{IsGarbleInput, HasGarbleFault}
+
+-- What causes a fault of a command that writes a file causes that of one that also reads a file.
+pub cause-writing : (fault : Fault) (Reading Writing : Type 0) → HasCause fault ⊥ Writing
+    → HasCause fault Reading Writing
+cause-writing faults.CannotRead Reading Writing has = absurd has
+cause-writing fault Reading Writing has = has
 
 -- the line of a file that holds these bytes
 pub written-line : (file : List ℕ) (held : Option (List ℕ)) (lines : List ℕ) (count : ℕ)
@@ -31,13 +32,12 @@ input_value-width widths index text bits is =
     let width = ap length value.in_wire_order ∙ length-map-range_with_len _ 0 is.width in
     is.at ∙ ap Some (sym width)
 
-pub deal-unwritten : (bytes seed_text : List ℕ) (index : ℕ) (text : List ℕ) (c : Netlist)
-    (seed : List ℕ) (bits : List Bool) → IsDealInput bytes seed_text index text c seed bits
+pub deal-unwritten : {bytes seed_text : List ℕ} {index : ℕ} {text : List ℕ} {c : Netlist}
+    {seed : List ℕ} {bits : List Bool} → IsDealInput bytes seed_text index text c seed bits
     → (fault : Fault) → IsUnwritten fault → HasDealFault bytes seed_text index text fault
-deal-unwritten bytes seed_text index text c seed bits input faults.CannotWrite h =
-    (c, (seed, (bits, input)))
-deal-unwritten bytes seed_text index text c seed bits input faults.Memory h = tt
-deal-unwritten bytes seed_text index text c seed bits input fault h = absurd h
+deal-unwritten input faults.CannotWrite h = (_, (_, (_, input)))
+deal-unwritten input faults.Memory h = tt
+deal-unwritten input fault h = absurd h
 
 pub order-unwritten : (bytes : List ℕ) (c : Netlist) → IsCircuit bytes c → (fault : Fault)
     → IsUnwritten fault → HasOrderFault bytes fault
@@ -52,9 +52,3 @@ garble-unwritten bytes seed_text workers c seed input few faults.CannotWrite h =
     ((c, (seed, input)), few)
 garble-unwritten bytes seed_text workers c seed input few faults.Memory h = tt
 garble-unwritten bytes seed_text workers c seed input few fault h = absurd h
-
--- a garbling of the circuit fits it
-pub garbled-fits : (c : Netlist) (seed : List ℕ) (g : GarblingParts) → IsGarbled c seed g
-    → FitsCircuit c g
-garbled-fits c seed g is =
-    record { wires = is.wires; and_gates = is.garbling.row_count; outputs = is.outputs }

@@ -1,61 +1,28 @@
-use Rattle.std.proofs.Common.{map, string_bytes, rules, ◌∙◌, ◌≡◌, IfErr, IfOk, sym, ap, MatchOption}
-use Rattle.gc_command.proofs.JobsNames.{subst}
-use Rattle.gc_command.proofs.Names.{fun_ext, err_from_is_err_and, HasFailed, AreEvalFiles}
-use Rattle.gc_half.specs.Canonical.{garbling_of}
-use Rattle.gc_audit.specs.Garbled.{AreCountsRight, IsPartsAudit}
-use Rattle.gc_command.specs.Audit.{IsAuditFault}
+use Rattle.gc_command.proofs.Names.{rules, ◌∙◌, sym, ap, fun_ext, ◌≡◌, IfOk, MatchOption, subst, map, string_bytes, AreEvalFiles, AreCountsRight, IsPartsAudit, garbling_of}
 use Rattle.gc_command.specs.SeedText.{IsSeed}
-use Rattle.gc_work.specs.declared.fault.WorkFault.TheVariants as work
+use Rattle.gc_command.proofs.AnswerLemmas.{IfErr-exit}
 use Rattle.gc_command.proofs.audit.audit.Goals as goal
 
 pub returns-in_err-circuit-clause-fault : goal.returns-in_err-circuit-clause-fault
 returns-in_err-circuit-clause-fault g c =
-    let p = err_from_is_err_and c.from_residual-in_err-circuit.result
-    c.from_residual-in_err-circuit.ensures.1 in
-    let order = c.args.order.now in
     let step = c.in_err-circuit.ensures.fault in
     let s = step.met.0.said-raw.1.1.1.1 in
     let now = c.files-1.given.1 (search (step.met.1, rules)) ∙ s.1.1 in
-    let is : IsAuditFault (g.F.Files.bytes c.read.new.self)
-    (HasFailed (g.F.Files.failures c.read.new.self) (g.F.Files.failures s.0.new.1.1.1.0))
-    (string_bytes order.circuit) (string_bytes order.seed) (string_bytes order.garbled)
-    (map string_bytes order.labels.items) c.in_err-circuit.field-0.0 =
-    subst (λ r. IfErr r (IsAuditFault (g.F.Files.bytes c.read.new.self)
-    (HasFailed (g.F.Files.failures c.read.new.self) (g.F.Files.failures s.0.new.1.1.1.0))
-    (string_bytes order.circuit) (string_bytes order.seed) (string_bytes order.garbled)
-    (map string_bytes order.labels.items))) (sym s.1.0) s.0.ensures.1.1.0 in
-    let at_end : IsAuditFault (g.F.Files.bytes c.read.new.self)
-    (HasFailed (g.F.Files.failures c.read.new.self) (g.F.Files.failures c.files-1.given.0))
-    (string_bytes order.circuit) (string_bytes order.seed) (string_bytes order.garbled)
-    (map string_bytes order.labels.items) c.in_err-circuit.field-0.0 =
-    subst (λ f. IsAuditFault (g.F.Files.bytes c.read.new.self)
-    (HasFailed (g.F.Files.failures c.read.new.self) (g.F.Files.failures f))
-    (string_bytes order.circuit) (string_bytes order.seed) (string_bytes order.garbled)
-    (map string_bytes order.labels.items) c.in_err-circuit.field-0.0) (sym now) is in
-    rw (p.1, p.2)
-    (rw (fun_ext c.read.ensures.same, c.in_ok-bytes.ensures.counted) at at_end.has)
+    let is = rw (← s.1.0, ← now, fun_ext c.read.ensures.same, c.in_ok-bytes.ensures.counted)
+    at s.0.ensures.1.1.0 in
+    IfErr-exit c.from_residual-in_err-circuit.result _ _
+    c.from_residual-in_err-circuit.ensures.1 is.has
 
 pub returns-in_err-compared-clause-fault : goal.returns-in_err-compared-clause-fault
 returns-in_err-compared-clause-fault g c =
-    let p = err_from_is_err_and c.from_residual-in_err-compared.result
-    c.from_residual-in_err-compared.ensures.1 in
-    let order = c.args.order.now in
     let step = c.in_ok-circuit.ensures.made in
     let s = step.1.met.0.said-raw.1.1.1.1 in
     let w = step.2.1.said-raw.1.1 in
-    let files : AreEvalFiles (g.F.Files.bytes c.read.new.self) (string_bytes order.circuit)
-    (string_bytes order.garbled) (map string_bytes order.labels.items) c.in_ok-circuit.circuit
-    step.0.1.0 step.0.1.1.items = subst (λ r. IfOk r (λ made. AreEvalFiles (g.F.Files.bytes c.read.new.self) (string_bytes order.circuit)
-    (string_bytes order.garbled) (map string_bytes order.labels.items) made.0 made.1.1.0 made.1.1.1.items)) (sym s.1.0) s.0.ensures.1.0 in
-    let seed : IsSeed (string_bytes order.seed) step.0.0 = subst (λ r. IfOk r (λ made. IsSeed (string_bytes order.seed) made.1.0)) (sym s.1.0) s.0.ensures.0 in
-    let memory : c.in_err-compared.field-0.0 ≡ work.Memory = subst (λ r. IfErr r (λ fault. fault ≡ work.Memory)) (sym w.1 ∙ c.in_err-compared.was) w.0.ensures.1.1.1.1.1.1 in
-    rw (p.1, p.2) (
-      _,
-      (
-        _,
-        (_, (rw (fun_ext c.read.ensures.same) at files, seed.accepted, memory)),
-      ),
-    )
+    let read = rw (← s.1.0, fun_ext c.read.ensures.same) at s.0.ensures.1.0 in
+    let seed = rw (← s.1.0) at s.0.ensures.0 in
+    let memory = rw (sym w.1 ∙ c.in_err-compared.was) at w.0.ensures.1.1.1.1.1.1 in
+    IfErr-exit c.from_residual-in_err-compared.result _ _ c.from_residual-in_err-compared.ensures.1
+    (_, (_, (_, (read, seed.accepted, memory))))
 
 pub returns-clause-answers : goal.returns-clause-answers
 returns-clause-answers g c =

@@ -1,7 +1,5 @@
-use Rattle.std.proofs.Common.{Result, Ok, Err, IfOk}
-use Rattle.std.proofs.lemmas.Result.{IfOk-weaker}
+use Rattle.gc_command.proofs.Names.{Result, Ok, Err, IfOk, IfOk-weaker, garbled-HasLabels, garbled-IsComparison}
 use Rattle.gc_half.specs.Comparing.{HasLabels, IsComparison}
-use Rattle.gc_half.proofs.ComparingLemmas.{garbled-HasLabels, garbled-IsComparison}
 use Rattle.gc_command.proofs.audit.compare.Goals as goal
 
 pub returns-clause-labels : goal.returns-clause-labels

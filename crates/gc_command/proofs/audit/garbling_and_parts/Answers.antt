@@ -1,4 +1,4 @@
-use Rattle.gc_half.proofs.ComparingLemmas.{garbled-HasLabels}
+use Rattle.gc_command.proofs.Names.{garbled-HasLabels}
 use Rattle.gc_command.proofs.audit.garbling_and_parts.Goals as goal
 
 pub returns-then-not-are_counts_right-clause-labels :

@@ -1,8 +1,29 @@
-use Rattle.std.proofs.Common.{[], ◌++◌, append-nil, append_assoc, sym}
-use Rattle.std.proofs.lemmas.List.{take_all}
-use Rattle.gc_command.specs.Audit.{none, verdict_line}
-use Rattle.gc_command.proofs.AuditLemmas.{found_more}
+use Rattle.gc_command.proofs.Names.{◌≡◌, ℕ, ◌+◌, ◌<◌, ◌&&◌, Bool, List, length, take, slice_index_or, take_more, Netlist, LabelFileParts, IsLabelsFound, AreLabelsFound, no_value, wrong_width, wrong_label, dealt, more, is_dealt, [], append-nil, ◌++◌, append_assoc, sym, take_all, none, verdict_line}
+use Rattle.gc_audit.specs.declared.labels.LabelsVerdict.{LabelsVerdict}
+use Rattle.gc_audit.specs.declared.labels.LabelsVerdict.TheVariants.{NoValue, WrongWidth, WrongLabel, Bits}
+use Rattle.gc_audit.specs.Labels.{IsLabelsVerdict}
 use Rattle.gc_command.proofs.audit_lines.push_label_files.Goals as goal
+
+module _ (c : Netlist) (seed : List ℕ) where
+  -- What is found of a label file, by a verdict on it,
+  found_of : {A : Type 0} (file : LabelFileParts) (verdict : LabelsVerdict A)
+      → IsLabelsVerdict c seed file verdict
+      → IsLabelsFound c seed file (is_dealt verdict) (verdict_line file.index verdict)
+  found_of file NoValue is = no_value is
+  found_of file WrongWidth is = wrong_width is.0 is.1 is.2
+  found_of file (WrongLabel wire) is = wrong_label wire is.0 is.1
+  found_of file (Bits bits) is = dealt bits.items is
+
+  -- and of one file more.
+  found_more : {A : Type 0} (files : List LabelFileParts) (i : ℕ) (file : LabelFileParts)
+      (verdict : LabelsVerdict A) (all_dealt : Bool) (lines : List ℕ) → i < length files
+      → file ≡ slice_index_or files i file
+      → AreLabelsFound c seed (take i files) all_dealt lines → IsLabelsVerdict c seed file verdict
+      → AreLabelsFound c seed (take (i + 1) files) (all_dealt && is_dealt verdict)
+      (lines ++ verdict_line file.index verdict)
+  found_more files i file verdict all_dealt lines below at before is =
+      rw (take_more files i file below, ← at)
+      (more (take i files) file all_dealt _ lines _ before (found_of file verdict is))
 
 pub loop-file-init : goal.loop-file-init
 loop-file-init g c = ([], none, sym (append-nil c.args.lines.now.items))

@@ -1,5 +1,4 @@
-use Rattle.std.proofs.Common.{◌≡◌, ℕ, ◌++◌, List, take}
-use Rattle.gc_command.specs.Audit.{AreLabelsFound}
+use Rattle.gc_command.proofs.Names.{◌≡◌, ℕ, ◌++◌, List, take, AreLabelsFound}
 use Rattle.gc_command.proofs.audit_lines.push_label_files.Given as goal
 
 abbrev pub invariant-loop-file : goal.invariant-loop-file

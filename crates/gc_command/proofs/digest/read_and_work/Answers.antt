@@ -1,4 +1,4 @@
-use Rattle.std.proofs.Common.{of_calls}
+use Rattle.gc_command.proofs.Names.{of_calls}
 use Rattle.gc_command.proofs.digest.read_and_work.Goals as goal
 
 pub returns-clause-made : goal.returns-clause-made

@@ -1,20 +1,18 @@
-use Rattle.gc_command.proofs.Names.{◌≡◌, [], drop, arith, append-nil, drop_all, err_from_is_err_and}
+use Rattle.gc_command.proofs.Names.{[], arith, append-nil, drop_all}
+use Rattle.gc_command.proofs.AnswerLemmas.{IfErr-exit}
 use Rattle.gc_command.proofs.EvalLemmas.{labels-memory}
 use Rattle.gc_command.proofs.evaluated_files.read_label_files.Goals as goal
 
 pub returns-in_err-labels-clause-fault : goal.returns-in_err-labels-clause-fault
 returns-in_err-labels-clause-fault g c =
-    let p = err_from_is_err_and c.from_residual.result c.from_residual.ensures.1 in
-    rw (p.1, p.2) (labels-memory _ _ _)
+    IfErr-exit c.from_residual.result _ _ c.from_residual.ensures.1 (labels-memory _ _ _)
 
 pub returns-in_err-push-clause-fault : goal.returns-in_err-push-clause-fault
 returns-in_err-push-clause-fault g c =
-    let p = err_from_is_err_and c.from_residual-in_err-push.result
-    c.from_residual-in_err-push.ensures.1 in
-    rw (p.1, p.2) (labels-memory _ _ _)
+    IfErr-exit c.from_residual-in_err-push.result _ _
+    c.from_residual-in_err-push.ensures.1 (labels-memory _ _ _)
 
 pub returns-clause-labels : goal.returns-clause-labels
 returns-clause-labels g c =
-    let none : drop c.loop-name.name-index c.args.names.now ≡ [] =
-    drop_all c.loop-name.name-index c.args.names.now (omega arith) in
+    let none = drop_all c.loop-name.name-index c.args.names.now (omega arith) in
     rw append-nil at (c.loop-name.invariant.files [] (rw none tt))

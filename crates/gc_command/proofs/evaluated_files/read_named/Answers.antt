@@ -1,11 +1,11 @@
-use Rattle.gc_command.proofs.Names.{fun_ext, inr, err_from_is_err_and}
+use Rattle.gc_command.proofs.Names.{fun_ext, inr}
+use Rattle.gc_command.proofs.AnswerLemmas.{IfErr-exit}
 use Rattle.gc_command.proofs.evaluated_files.read_named.Goals as goal
 
 pub returns-in_err-labels-clause-fault : goal.returns-in_err-labels-clause-fault
 returns-in_err-labels-clause-fault g c =
-    let p = err_from_is_err_and c.from_residual-in_err-labels.result
-    c.from_residual-in_err-labels.ensures.1 in
-    rw (p.1, p.2) (inr (
+    IfErr-exit c.from_residual-in_err-labels.result _ _
+    c.from_residual-in_err-labels.ensures.1 (inr (
       _,
       c.in_ok-garbled.ensures.garbled,
       rw (fun_ext c.read_garbled_file.ensures.same, c.in_ok-garbled.ensures.counted)

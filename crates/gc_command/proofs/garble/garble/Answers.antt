@@ -1,10 +1,4 @@
-use Rattle.gc_command.proofs.Names.{◌≡◌, ◌∙◌, string_bytes, AreFew, IfOk-weaker, IfErr-weaker}
-use Rattle.std.specs.Prelude.{IfOk}
-use Rattle.std.proofs.Common.{of_calls}
-use Rattle.gc_disk.specs.Files.{GivesFile}
-use Rattle.gc_half.specs.Garbling.{IsGarbled}
-use Rattle.gc_work.specs.WorkFault.{JudgesWorkers}
-use Rattle.gc_command.specs.Garble.{IsGarbleInput, HasGarbleFault}
+use Rattle.gc_command.proofs.Names.{◌≡◌, ◌∙◌, string_bytes, AreFew, IfOk-weaker, IfErr-weaker, IfOk, of_calls, GivesFile, IsGarbled, JudgesWorkers, IsGarbleInput}
 use Rattle.gc_command.proofs.AnswerLemmas.{found_where_known}
 use Rattle.gc_command.proofs.WroteLemmas.{IfSome-both, garble-unwritten}
 use Rattle.gc_command.proofs.garble.garble.Goals as goal
@@ -30,9 +24,7 @@ returns-clause-answers g c =
     rw same (rw c.in_ok-garbling.was at is) in
     rw (← c.as_str.ensures.value)
     (IfOk-weaker c.write_garbling.result _ _
-    (λ lines written. IfSome-both held
-    (λ bytes. IsGarbleInput bytes seed c.in_ok-circuit.circuit c.in_ok-garbling.seed) _ _
-    (λ bytes holds wrote. record {
+    (λ lines written. IfSome-both held _ _ _ (λ bytes holds wrote. record {
       circuit = c.in_ok-circuit.circuit;
       seed = c.in_ok-garbling.seed;
       input = holds;
@@ -43,8 +35,7 @@ returns-clause-answers g c =
     })
     (found_where_known
     (λ bytes. IsGarbleInput bytes seed c.in_ok-circuit.circuit c.in_ok-garbling.seed) held text given
-    input)
-    (rw (c.read.ensures.same c.as_str.result.now) at (written c.as_str.result.now)))
+    input) (rw (c.read.ensures.same c.as_str.result.now) at (written c.as_str.result.now)))
     c.write_garbling.ensures.written)
 
 pub returns-clause-fault : goal.returns-clause-fault
@@ -60,12 +51,10 @@ returns-clause-fault g c =
     let few : AreFew c.args.order.now.workers = rw c.in_ok-garbling.was at judged in
     rw (← c.as_str.ensures.value)
     (IfErr-weaker c.write_garbling.result _ _
-    (λ fault unwritten. found_where_known (λ bytes. HasGarbleFault bytes seed c.args.order.now.workers fault) held text
-    given (garble-unwritten text seed c.args.order.now.workers c.in_ok-circuit.circuit made.0 read few
-    fault unwritten))
+    (λ fault unwritten. found_where_known _ held text given
+    (garble-unwritten text seed _ c.in_ok-circuit.circuit made.0 read few fault unwritten))
     c.write_garbling.ensures.fault)
 
 pub returns-clause-unwritten : goal.returns-clause-unwritten
 returns-clause-unwritten g c = IfErr-weaker c.write_garbling.result _ _
-    (λ fault same n. same n ∙ c.read.ensures.same n)
-    c.write_garbling.ensures.unwritten
+    (λ fault same n. same n ∙ c.read.ensures.same n) c.write_garbling.ensures.unwritten

@@ -1,4 +1,4 @@
-use Rattle.gc_command.proofs.JobsNames.{sym, ap, ◌∙◌, tokens, blank_passed, has_words}
+use Rattle.gc_command.proofs.Names.{sym, ap, ◌∙◌, tokens, blank_passed, has_words}
 use Rattle.gc_command.proofs.JobListLemmas.{some_word, no_word}
 use Rattle.gc_command.proofs.job_list.has_words.Goals as goal
 

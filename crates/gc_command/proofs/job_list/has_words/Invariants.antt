@@ -1,4 +1,4 @@
-use Rattle.gc_command.proofs.JobsNames.{◌≡◌, drop, tokens}
+use Rattle.gc_command.proofs.Names.{◌≡◌, drop, tokens}
 use Rattle.gc_command.proofs.job_list.has_words.Given as goal
 
 -- No blank is in a token.

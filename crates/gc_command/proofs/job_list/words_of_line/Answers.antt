@@ -1,4 +1,4 @@
-use Rattle.gc_command.proofs.JobsNames.{List, map, arith, ap, ◌∙◌, length-map, take_all, tokens}
+use Rattle.gc_command.proofs.Names.{List, map, arith, ap, ◌∙◌, length-map, take_all, tokens}
 use Rattle.gc_command.proofs.JobListLemmas.{utf8_token, word_more}
 use Rattle.gc_command.proofs.job_list.words_of_line.Goals as goal
 

@@ -1,4 +1,4 @@
-use Rattle.std.proofs.Common.{◌≡◌, map, take}
+use Rattle.gc_command.proofs.Names.{◌≡◌, map, take}
 use Rattle.gc_command.proofs.job_list.words_of_line.Given as goal
 
 abbrev pub invariant-loop-token : goal.invariant-loop-token

@@ -1,13 +1,14 @@
-use Rattle.gc_command.proofs.JobsNames.{map, length, option_map, Err, ap, ap₂, ◌∙◌, sym, subst, arith, fun_ext, slice_get-get_or, slice_get-map, err_from_is_err_and, AreEvaluatedBy, AreOnOneCircuit, HasFailed}
-use Rattle.gc_command.specs.Jobs.{jobs_lines}
+use Rattle.gc_command.proofs.Names.{map, length, option_map, ap, ap₂, ◌∙◌, sym, subst, arith, fun_ext, slice_get-get_or, slice_get-map, AreOnOneCircuit, HasFailed, Err, jobs_lines}
+use Rattle.gc_bank.specs.Jobs.{AreEvaluatedBy}
+use Rattle.gc_command.proofs.AnswerLemmas.{IfErr-exit}
 use Rattle.gc_command.proofs.JobsLemmas.{jobs-circuit-fault, jobs-list-fault, length-listed, named_count, named_on_one}
 use Rattle.gc_command.proofs.jobs.jobs.Goals as goal
 
 pub returns-in_err-circuit-clause-fault : goal.returns-in_err-circuit-clause-fault
 returns-in_err-circuit-clause-fault g c =
     rw (← c.as_str-name.ensures.value, ← c.as_str-list.ensures.value)
-    (let p = err_from_is_err_and c.from_residual.result c.from_residual.ensures.1 in
-    rw (p.1, p.2) (jobs-circuit-fault (g.F.Files.bytes c.args.files.now)
+    (IfErr-exit c.from_residual.result _ _ c.from_residual.ensures.1
+    (jobs-circuit-fault (g.F.Files.bytes c.args.files.now)
     (HasFailed (g.F.Files.failures c.args.files.now)
     (g.F.Files.failures c.read_circuit_and_digest.new.files))
     c.as_str-name.result.now c.as_str-list.result.now c.args.order.now.workers _
@@ -16,12 +17,10 @@ returns-in_err-circuit-clause-fault g c =
 pub returns-in_err-jobs-clause-fault : goal.returns-in_err-jobs-clause-fault
 returns-in_err-jobs-clause-fault g c =
     rw (← c.as_str-name.ensures.value, ← c.as_str-list.ensures.value)
-    (let p = err_from_is_err_and c.from_residual-in_err-jobs.result
-    c.from_residual-in_err-jobs.ensures.1 in
-    let same = fun_ext c.read_circuit_and_digest.ensures.same in
-    rw (p.1, p.2) (jobs-list-fault (g.F.Files.bytes c.args.files.now)
-    (HasFailed (g.F.Files.failures c.args.files.now)
-    (g.F.Files.failures c.read_listed_jobs.new.files))
+    (let same = fun_ext c.read_circuit_and_digest.ensures.same in
+    IfErr-exit c.from_residual-in_err-jobs.result _ _ c.from_residual-in_err-jobs.ensures.1
+    (jobs-list-fault (g.F.Files.bytes c.args.files.now)
+    (HasFailed (g.F.Files.failures c.args.files.now) (g.F.Files.failures c.read_listed_jobs.new.files))
     c.as_str-name.result.now c.as_str-list.result.now c.args.order.now.workers _
     c.in_ok-circuit.ensures.circuit _
     (rw (same, c.in_ok-circuit.ensures.counted) at c.in_err-jobs.ensures.fault)))
@@ -39,12 +38,10 @@ evaluate_listed-requires-clause-one g c = λ κs outlives i k a b.
 pub returns-in_err-outputs-clause-fault : goal.returns-in_err-outputs-clause-fault
 returns-in_err-outputs-clause-fault g c =
     rw (← c.as_str-name.ensures.value, ← c.as_str-list.ensures.value)
-    (let p = err_from_is_err_and c.from_residual-in_err-outputs.result
-    c.from_residual-in_err-outputs.ensures.1 in
-    let same = fun_ext c.read_circuit_and_digest.ensures.same in
+    (let same = fun_ext c.read_circuit_and_digest.ensures.same in
     let listed = rw same at c.in_ok-jobs.ensures.listed in
     let fault = c.in_err-outputs.ensures.fault in
-    rw (p.1, p.2) (
+    IfErr-exit c.from_residual-in_err-outputs.result _ _ c.from_residual-in_err-outputs.ensures.1 (
       c.in_ok-circuit.circuit,
       c.in_ok-circuit.ensures.circuit,
       (

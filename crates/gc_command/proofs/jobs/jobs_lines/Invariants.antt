@@ -1,5 +1,4 @@
-use Rattle.gc_command.proofs.JobsNames.{◌≡◌, ◌++◌, drop, map}
-use Rattle.gc_command.specs.Jobs.{jobs_lines}
+use Rattle.gc_command.proofs.Names.{◌≡◌, ◌++◌, drop, map, jobs_lines}
 use Rattle.gc_command.proofs.jobs.jobs_lines.Given as goal
 
 -- The lines so far and those of what is left are the lines of all.

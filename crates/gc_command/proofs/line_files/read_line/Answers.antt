@@ -1,4 +1,4 @@
-use Rattle.gc_command.proofs.JobsNames.{fun_ext}
+use Rattle.gc_command.proofs.Names.{fun_ext}
 use Rattle.gc_command.proofs.JobsLemmas.{parted}
 use Rattle.gc_command.proofs.line_files.read_line.Goals as goal
 

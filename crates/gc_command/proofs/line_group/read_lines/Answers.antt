@@ -1,4 +1,4 @@
-use Rattle.gc_command.proofs.JobsNames.{◌≡◌, [], ◌∷◌, drop, ◌∙◌, sym, arith, append_assoc, get_or-map, fun_ext, append-nil, drop_all, length-map, tokens}
+use Rattle.gc_command.proofs.Names.{[], ◌∷◌, ◌∙◌, sym, arith, append_assoc, get_or-map, fun_ext, append-nil, drop_all, length-map, tokens}
 use Rattle.gc_command.proofs.JobsLemmas.{line-next}
 use Rattle.gc_command.proofs.LineLemmas.{read-last, read-next}
 use Rattle.gc_command.proofs.line_group.read_lines.Goals as goal
@@ -40,7 +40,7 @@ loop-line-preserved g c =
       read = λ failed left rest.
           rw (c.in_ok-push.ensures.items, append_assoc c.loop-line.read.items (files ∷ []) left)
           (c.loop-line.invariant.read failed (files ∷ left)
-          (rw next (read-next _ _ _ failed _ _ files left whole named rest)));
+          (rw next (read-next _ _ failed _ _ _ files left whole named rest)));
       count = omega (arith, c.in_ok-push.ensures.len, c.loop-line.invariant.count);
       same = λ n. c.read_line-line_files.ensures.same n ∙ c.loop-line.invariant.same n;
       counted = c.read_line-line_files.ensures.counted whole ∙ c.loop-line.invariant.counted;
@@ -48,7 +48,6 @@ loop-line-preserved g c =
 
 pub returns-clause-read : goal.returns-clause-read
 returns-clause-read g c =
-    let none : drop c.loop-line.line-index c.args.lines.now ≡ [] =
-    drop_all c.loop-line.line-index c.args.lines.now (omega arith) in
+    let none = drop_all c.loop-line.line-index c.args.lines.now (omega arith) in
     rw append-nil at (c.loop-line.invariant.read (g.F.Files.failures c.loop-line.files) []
     (rw none c.loop-line.invariant.counted))

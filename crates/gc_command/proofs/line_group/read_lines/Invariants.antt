@@ -1,6 +1,4 @@
-use Rattle.gc_command.proofs.JobsNames.{◌≡◌, ℕ, ◌++◌, List, drop, map, length, tokens, FailedFiles}
-use Rattle.gc_command.specs.declared.line_files.LineFiles.{LineFiles}
-use Rattle.gc_command.specs.LineFiles.{AreReadInTurn}
+use Rattle.gc_command.proofs.Names.{◌≡◌, ℕ, ◌++◌, List, drop, map, length, tokens, FailedFiles, LineFiles, AreReadInTurn}
 use Rattle.gc_command.proofs.line_group.read_lines.Given as goal
 
 -- What is read of the lines that are left is read of all.

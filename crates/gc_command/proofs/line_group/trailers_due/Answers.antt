@@ -1,9 +1,6 @@
-use Rattle.gc_command.proofs.JobsNames.{◌≡◌, rules, tests, map, ap, ◌∙◌, sym, length, length-map, map_from_collect, YieldsList-at}
+use Rattle.gc_command.proofs.Names.{◌≡◌, rules, tests, map, ap, ◌∙◌, sym, length, length-map, map_from_collect, YieldsList-at, map-map, sha256, garbled_bytes}
 use Rattle.std.proofs.lemmas.Iterator.{YieldsList-from_slice, YieldsList-from_map_by}
-use Rattle.std.proofs.lemmas.Simd.{map-map}
-use Rattle.sha2.specs.Sha256.{sha256}
 use Rattle.gc_file.specs.Reading.{before_trailer}
-use Rattle.gc_command.specs.LineFiles.{garbled_bytes}
 use Rattle.gc_command.proofs.line_group.trailers_due.Goals as goal
 
 pub returns : goal.returns

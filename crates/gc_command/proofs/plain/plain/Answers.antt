@@ -1,7 +1,5 @@
-use Rattle.gc_command.proofs.Names.{map, ap₂, ◌∙◌, IsCircuit, output_lines}
-use Rattle.std.proofs.lemmas.List.Folds.{flat_map-map}
-use Rattle.gc_command.proofs.AnswerLemmas.{IfSome-map, length-outputs}
-use Rattle.gc_command.proofs.ValuesLemmas.{SpellValues-widths}
+use Rattle.gc_command.proofs.Names.{map, ap₂, ◌∙◌, IfSome_then, output_lines, flat_map-map}
+use Rattle.gc_command.proofs.AnswerLemmas.{SpellValues-widths, length-outputs}
 use Rattle.gc_command.proofs.plain.plain.Goals as goal
 
 pub plain_eval-requires : goal.plain_eval-requires
@@ -17,9 +15,8 @@ output_lines-requires g c =
 pub returns-clause-answers : goal.returns-clause-answers
 returns-clause-answers g c =
     rw (← c.as_str-name.ensures.value, ← c.deref.ensures.value, ← c.by_flag-form.ensures)
-    (IfSome-map (g.F.Files.bytes c.args.files.now c.as_str-name.result.now)
-    (λ bytes. IsCircuit bytes c.in_ok-circuit.circuit) _
-    (λ bytes circuit. record {
+    (IfSome_then (g.F.Files.bytes c.args.files.now c.as_str-name.result.now)
+    c.in_ok-circuit.ensures.circuit (λ bytes circuit. record {
       circuit = c.in_ok-circuit.circuit;
       read = circuit;
       values = map (λ value. value.items) c.in_ok-values.values.items;
@@ -27,7 +24,5 @@ returns-clause-answers g c =
       outputs = c.in_ok-outputs.outputs.items;
       computed = rw (flat_map-map, ← c.deref-2.ensures.value) c.in_ok-outputs.ensures;
       printed = c.in_ok-output_lines.ensures
-          ∙ ap₂ (output_lines c.by_flag-form.result) c.output_widths.ensures
-          c.deref-3.ensures.value;
-    })
-    c.in_ok-circuit.ensures.circuit)
+          ∙ ap₂ (output_lines c.by_flag-form.result) c.output_widths.ensures c.deref-3.ensures.value;
+    }))

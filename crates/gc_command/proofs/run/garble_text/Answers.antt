@@ -1,22 +1,16 @@
-use Rattle.std.specs.Prelude.{IfOk}
-use Rattle.std.proofs.Common.{of_calls}
-use Rattle.gc_half.specs.Garbling.{IsGarbled}
-use Rattle.gc_work.specs.WorkFault.{JudgesWorkers}
-use Rattle.gc_command.proofs.Names.{◌≡◌, map, string_bytes, err_from_is_err_and}
-use Rattle.gc_command.specs.Input.{IsInput}
+use Rattle.gc_command.proofs.Names.{IfOk, of_calls, IsGarbled, JudgesWorkers, ◌≡◌, map, string_bytes, IsInput}
+use Rattle.gc_command.proofs.AnswerLemmas.{IfErr-exit}
 use Rattle.gc_command.proofs.run.garble_text.Goals as goal
 
 pub returns-in_err-garbling-clause-fault : goal.returns-in_err-garbling-clause-fault
 returns-in_err-garbling-clause-fault g c =
-    let p = err_from_is_err_and c.from_residual-in_err-garbling.result
-    c.from_residual-in_err-garbling.ensures.1 in
     let order = c.args.order.now in
     let made = c.in_ok-circuit.ensures.made in
     let read : IsInput c.args.text.now (string_bytes order.seed)
     (map string_bytes order.values.items) c.in_ok-circuit.circuit
     (map (λ value. value.items) made.0.1.items) = search (made.1, of_calls) in
     let judged : JudgesWorkers order.workers c.in_ok-circuit.made = search (made.2, of_calls) in
-    rw (p.1, p.2)
+    IfErr-exit c.from_residual-in_err-garbling.result _ _ c.from_residual-in_err-garbling.ensures.1
     (record { first = ((_, (_, read)), rw c.in_err-garbling.was at judged); cause = tt })
 
 pub returns-clause-input : goal.returns-clause-input

@@ -1,7 +1,4 @@
-use Rattle.std.proofs.Common.{◌∙◌, refl, arith}
-use Rattle.std.proofs.lemmas.List.{take_all}
-use Rattle.gc_netlist.proofs.Tables.{length-table}
-use Rattle.gc_circuit.proofs.CheckLemmas.{start_table}
+use Rattle.gc_command.proofs.Names.{◌∙◌, refl, arith, take_all, length-table, start_table}
 use Rattle.gc_command.proofs.WireLemmas.{flags_more}
 use Rattle.gc_command.proofs.set_wires.flags.Goals as goal
 

@@ -1,7 +1,4 @@
-use Rattle.std.proofs.Common.{◌≡◌, map, take}
-use Rattle.std.specs.List.{range_with_len}
-use Rattle.gc_netlist.specs.Circuit.{input_wires}
-use Rattle.gc_netlist.specs.Reading.{is_set}
+use Rattle.gc_command.proofs.Names.{◌≡◌, map, take, range_with_len, input_wires, is_set}
 use Rattle.gc_command.proofs.set_wires.flags.Given as goal
 
 abbrev pub invariant-loop-i : goal.invariant-loop-i

@@ -1,6 +1,5 @@
-use Rattle.std.proofs.Common.{◌≤◌, ◌-◌, Bool, true, false, get_or, length, take, drop, arith}
+use Rattle.gc_command.proofs.Names.{◌≤◌, ◌-◌, Bool, true, false, get_or, length, take, drop, arith, length-take, length-drop}
 use mir.Val.{bool_byte}
-use Rattle.std.proofs.lemmas.List.{length-take, length-drop}
 use Rattle.gc_command.proofs.HexTextLemmas.{bits_number-within}
 use Rattle.gc_command.proofs.value_form.+packed_byte.Goals as goal
 

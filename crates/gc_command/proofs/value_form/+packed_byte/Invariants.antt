@@ -1,4 +1,4 @@
-use Rattle.std.proofs.Common.{length}
+use Rattle.gc_command.proofs.Names.{length}
 use Rattle.gc_command.proofs.value_form.+packed_byte.Given as goal
 
 abbrev pub decreases-packed_byte : goal.decreases-packed_byte

@@ -1,7 +1,4 @@
-use Rattle.std.proofs.Common.{◌≡◌, Bool, List, length, Ok}
-use Rattle.gc_circuit.specs.Value.{value_of_text}
-use Rattle.gc_circuit.proofs.ValueLemmas.{shown_is_read}
-use Rattle.gc_command.specs.Lines.{value_text}
+use Rattle.gc_command.proofs.Names.{◌≡◌, Bool, List, length, Ok, value_of_text, shown_is_read, value_text}
 use Rattle.gc_command.specs.declared.value_form.ValueForm.{ValueForm}
 use Rattle.gc_command.specs.declared.value_form.ValueForm.TheVariants.{Binary, Hexadecimal}
 use Rattle.gc_command.proofs.HexTextLemmas.{hex_text-read}

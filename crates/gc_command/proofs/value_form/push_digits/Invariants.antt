@@ -1,5 +1,4 @@
-use Rattle.std.proofs.Common.{◌≡◌, ◌++◌, map, take}
-use Rattle.gc_circuit.specs.Value.{binary_digit}
+use Rattle.gc_command.proofs.Names.{◌≡◌, ◌++◌, map, take, binary_digit}
 use Rattle.gc_command.proofs.value_form.push_digits.Given as goal
 
 abbrev pub invariant-loop-bit : goal.invariant-loop-bit

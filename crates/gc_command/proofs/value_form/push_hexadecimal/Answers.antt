@@ -1,8 +1,4 @@
-use Rattle.std.proofs.Common.{◌≡◌, ◌++◌, ◌∷◌, [], sym, ap, ap₂, ◌∙◌, append_assoc, arith}
-use Rattle.std.proofs.lemmas.Bool.Decides.{nat_tests}
-use Rattle.std.proofs.lemmas.List.{append-nil}
-use Rattle.hex.specs.Hex.{encode_lower}
-use Rattle.gc_file.specs.DecodeBits.{bits_number, packed}
+use Rattle.gc_command.proofs.Names.{◌≡◌, ◌++◌, ◌∷◌, [], sym, ap, ap₂, ◌∙◌, append_assoc, arith, nat_tests, append-nil, encode_lower, bits_number, packed}
 use Rattle.gc_command.proofs.HexTextLemmas.{encode_lower-more, encode_lower-none, first_eight, packed-more, packed-none}
 use Rattle.gc_command.proofs.value_form.push_hexadecimal.Goals as goal
 

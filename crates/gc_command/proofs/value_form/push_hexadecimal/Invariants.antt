@@ -1,6 +1,4 @@
-use Rattle.std.proofs.Common.{◌≡◌, ◌++◌, ◌∷◌, length}
-use Rattle.hex.specs.Hex.{encode_lower}
-use Rattle.gc_file.specs.DecodeBits.{packed}
+use Rattle.gc_command.proofs.Names.{◌≡◌, ◌++◌, ◌∷◌, length, encode_lower, packed}
 use Rattle.gc_command.proofs.value_form.push_hexadecimal.Given as goal
 
 -- The digits so far and those of what is left are the digits of all.

@@ -1,4 +1,4 @@
-use Rattle.gc_file.proofs.WriterNames.{◌∙◌, arith, Appends-trans, take-add, take_rest}
+use Rattle.gc_command.proofs.Names.{◌∙◌, arith, Appends-trans, take-add, take_rest}
 use Rattle.gc_command.proofs.wrote.write_bytes.Goals as goal
 
 pub loop-sent-preserved : goal.loop-sent-preserved

@@ -1,4 +1,4 @@
-use Rattle.gc_file.proofs.WriterNames.{◌≡◌, ◌≤◌, ◌-◌, length, take, Appends}
+use Rattle.gc_command.proofs.Names.{◌≡◌, ◌≤◌, ◌-◌, length, take, Appends}
 use Rattle.gc_command.proofs.wrote.write_bytes.Given as goal
 
 abbrev pub invariant-loop-sent : goal.invariant-loop-sent

@@ -1,4 +1,6 @@
-use Rattle.gc_command.proofs.JobsNames.{lit<, map_from_collect, YieldsList-from_str_split}
+use Rattle.std.proofs.Common.{lit<}
+use Rattle.std.proofs.lemmas.Iterator.Consumers.{map_from_collect}
+use Rattle.std.proofs.lemmas.Iterator.Splits.{YieldsList-from_str_split}
 use Rattle.gc_explain.proofs.output.lines_of.Goals as goal
 
 pub returns : goal.returns

@@ -1,6 +1,5 @@
-use Rattle.gc_command.proofs.JobsNames.{◌≡◌, ◌++◌, List, drop, length, JobParts, Fault}
+use Rattle.gc_command.proofs.Names.{◌≡◌, ◌++◌, List, drop, length, JobParts, Fault, MakeJobs, FirstMakeNoJob}
 use Rattle.std.specs.Vec.Iter.{into_iter_items, into_iter_len}
-use Rattle.gc_command.specs.LineFiles.{MakeJobs, FirstMakeNoJob}
 use Rattle.gc_command.proofs.binder.Binder.jobs_of_files.Given as goal
 
 -- What the files that are left make, all of them make.

@@ -1,6 +1,4 @@
-use Rattle.std.proofs.Common.{arith}
-use Rattle.gc_netlist.specs.Text.{tokens}
-use Rattle.gc_command.proofs.JobsNames.{IfOk-weaker, IfErr-weaker}
+use Rattle.gc_command.proofs.Names.{arith, tokens, IfOk-weaker, IfErr-weaker}
 use Rattle.gc_command.proofs.JobsLemmas.{only-named, only-words}
 use Rattle.gc_command.proofs.LineLemmas.{made-named, making-fault}
 use Rattle.gc_command.proofs.binder.Binder.read_group.Goals as goal

@@ -1,4 +1,4 @@
-use Rattle.gc_command.proofs.JobsNames.{err_from_is_err_and}
+use Rattle.gc_command.proofs.AnswerLemmas.{IfErr-exit}
 use Rattle.gc_command.proofs.JobsLemmas.{parted}
 use Rattle.gc_command.proofs.LineLemmas.{reading-fault, binding-fault}
 use Rattle.gc_command.specs.declared.fault.Fault.TheVariants.{Binding}
@@ -6,23 +6,21 @@ use Rattle.gc_command.proofs.binder.Binder.read_job.Goals as goal
 
 pub returns-in_err-garbled-clause-fault : goal.returns-in_err-garbled-clause-fault
 returns-in_err-garbled-clause-fault g c =
-    let p = err_from_is_err_and c.from_residual-in_err-garbled.result
-    c.from_residual-in_err-garbled.ensures.1 in
     let names = parted c.deref.ensures.value c.in-Some.ensures.cases.0 (λ word. word.now)
     c.in_ok-words.ensures in
-    rw (p.1, p.2, names) (reading-fault (g.F.Files.bytes c.args.files.now) _
-    c.args.self.now.circuit.now _ _ _ c.in_err-garbled.ensures.fault)
+    rw names (IfErr-exit c.from_residual-in_err-garbled.result _ _
+    c.from_residual-in_err-garbled.ensures.1
+    (reading-fault _ _ _ _ _ _ c.in_err-garbled.ensures.fault))
 
 pub returns-in_err-bind_by_digest-clause-fault : goal.returns-in_err-bind_by_digest-clause-fault
 returns-in_err-bind_by_digest-clause-fault g c =
-    let p = err_from_is_err_and c.from_residual-in_err-bind_by_digest.result
-    c.from_residual-in_err-bind_by_digest.ensures.1 in
     let names = parted c.deref.ensures.value c.in-Some.ensures.cases.0 (λ word. word.now)
     c.in_ok-words.ensures in
-    rw (p.1, p.2, names) (binding-fault (g.F.Files.bytes c.args.files.now) (λ name. ⊥)
-    c.args.self.now.circuit.now _ _ _ _ (Binding c.in_err-bind_by_digest.field-0.0)
-    c.in_ok-garbled.ensures.given
-    (rw c.deref-2.ensures.value at (c.in_err-bind_by_digest.ensures.err c.requires.digest)))
+    rw names (IfErr-exit c.from_residual-in_err-bind_by_digest.result _ _
+    c.from_residual-in_err-bind_by_digest.ensures.1
+    (binding-fault (g.F.Files.bytes c.args.files.now) (λ name. ⊥) c.args.self.now.circuit.now _ _ _ _
+    (Binding c.in_err-bind_by_digest.field-0.0) c.in_ok-garbled.ensures.given
+    (rw c.deref-2.ensures.value at (c.in_err-bind_by_digest.ensures.err c.requires.digest))))
 
 pub returns-clause-named : goal.returns-clause-named
 returns-clause-named g c = record {

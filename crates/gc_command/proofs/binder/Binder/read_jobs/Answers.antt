@@ -1,28 +1,23 @@
-use Rattle.gc_command.proofs.JobsNames.{◌≡◌, ◌<◌, ◌+◌, ◌-◌, ◌++◌, [], length, take, drop, map, ◌∙◌, sym, ap, arith, append_assoc, fun_ext, append-nil, drop_all, length-map, err_from_is_err_and, tokens}
-use Rattle.std.proofs.lemmas.List.{drop-drop, length-append}
-use Rattle.std.proofs.lemmas.List.Elements.{All-drop, All-take}
+use Rattle.gc_command.proofs.Names.{◌≡◌, ◌<◌, ◌+◌, ◌++◌, [], length, take, drop, map, ◌∙◌, sym, ap, arith, append_assoc, fun_ext, append-nil, drop_all, length-map, tokens, drop-drop, length-append, All-drop, All-take}
+use Rattle.gc_command.proofs.AnswerLemmas.{IfErr-exit}
 use Rattle.gc_command.proofs.JobsLemmas.{named_count}
 use Rattle.gc_command.proofs.LineLemmas.{bad-later, bad-part, lines-among, names-part, words-part}
 use Rattle.gc_command.proofs.binder.Binder.read_jobs.Goals as goal
 
 pub read_group-requires-clause-words : goal.read_group-requires-clause-words
 read_group-requires-clause-words g c =
-    rw (words-part (λ line. tokens line.now) c.args.lines.now c.split_at.result.1.now
-    c.split_at-in-loop-jobs.result.0.now c.len-in-loop-jobs.result c.lines_ahead.result
-    c.split_at.ensures.back c.split_at-in-loop-jobs.ensures.front)
+    rw (words-part (λ line. tokens line.now) c.args.lines.now _ _ _ _ c.split_at.ensures.back
+    c.split_at-in-loop-jobs.ensures.front)
     (All-take (λ words. 0 < length words) c.lines_ahead.result _
     (All-drop (λ words. 0 < length words) c.len-in-loop-jobs.result _ c.requires.words))
 
 pub returns-in_err-made-clause-fault : goal.returns-in_err-made-clause-fault
 returns-in_err-made-clause-fault g c =
-    let p = err_from_is_err_and c.from_residual-in_err-made.result
-    c.from_residual-in_err-made.ensures.1 in
     let done : c.len-in-loop-jobs.result ≡ length c.loop-jobs.jobs.items =
     omega (arith, c.len-in-loop-jobs.ensures) in
-    let words = rw done at (words-part (λ line. tokens line.now) c.args.lines.now
-    c.split_at.result.1.now c.split_at-in-loop-jobs.result.0.now c.len-in-loop-jobs.result
-    c.lines_ahead.result c.split_at.ensures.back c.split_at-in-loop-jobs.ensures.front) in
-    rw (p.1, p.2)
+    let words = rw done at (words-part (λ line. tokens line.now) c.args.lines.now _ _ _ _
+    c.split_at.ensures.back c.split_at-in-loop-jobs.ensures.front) in
+    IfErr-exit c.from_residual-in_err-made.result _ _ c.from_residual-in_err-made.ensures.1
     (lines-among _ _ _ _ _ (λ fault bad. c.loop-jobs.invariant.faults _ fault
     (bad-part _ _ _ fault c.lines_ahead.result _ bad)) _
     (rw (fun_ext c.loop-jobs.invariant.same, c.loop-jobs.invariant.counted, words)
@@ -38,8 +33,6 @@ loop-jobs-smaller g c =
     ∙ c.split_at-in-loop-jobs.ensures.front_len in
     let more : length c.append.new.self.items ≡ length jobs + length made =
     ap length c.in_ok-append.ensures.items ∙ length-append jobs made in
-    let smaller : length c.args.lines.now - length c.append.new.self.items
-    < length c.args.lines.now - length jobs =
     omega (
       arith,
       count,
@@ -48,8 +41,7 @@ loop-jobs-smaller g c =
       c.split_at.ensures.back_len,
       c.len-in-loop-jobs.ensures,
       c.loop-jobs-test.true,
-    ) in
-    smaller
+    )
 
 pub loop-jobs-preserved : goal.loop-jobs-preserved
 loop-jobs-preserved g c =
@@ -60,9 +52,8 @@ loop-jobs-preserved g c =
     let rest = drop (length jobs) (map (λ line. tokens line.now) c.args.lines.now) in
     let words : map (λ line. tokens line.now) c.split_at-in-loop-jobs.result.0.now
     ≡ take c.lines_ahead.result rest =
-    rw done at (words-part (λ line. tokens line.now) c.args.lines.now
-    c.split_at.result.1.now c.split_at-in-loop-jobs.result.0.now c.len-in-loop-jobs.result
-    c.lines_ahead.result c.split_at.ensures.back c.split_at-in-loop-jobs.ensures.front) in
+    rw done at (words-part (λ line. tokens line.now) c.args.lines.now _ _ _ _
+    c.split_at.ensures.back c.split_at-in-loop-jobs.ensures.front) in
     let group = c.split_at-in-loop-jobs.result.0.now in
     let count : length made ≡ c.lines_ahead.result =
     named_count _ _ _ made c.in_ok-made.ensures.named ∙ length-map group (λ line. tokens line.now)
@@ -96,11 +87,8 @@ loop-jobs-preserved g c =
 
 pub returns-clause-named : goal.returns-clause-named
 returns-clause-named g c =
-    let none : drop (length c.loop-jobs.jobs.items)
-    (map (λ line. tokens line.now) c.args.lines.now)
-    ≡ [] =
-    drop_all (length c.loop-jobs.jobs.items) _
-    (omega (
+    let all = map (λ line. tokens line.now) c.args.lines.now in
+    let none = drop_all (length c.loop-jobs.jobs.items) all (omega (
       arith,
       c.loop-jobs-test.false,
       c.len.ensures,

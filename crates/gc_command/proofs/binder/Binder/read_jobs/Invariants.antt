@@ -1,4 +1,4 @@
-use Rattle.gc_command.proofs.JobsNames.{◌≡◌, ◌≤◌, ◌-◌, ℕ, ◌++◌, List, drop, map, length, tokens, JobParts, FailedFiles, HasFailed, Fault, NameJobs, FirstBadJob}
+use Rattle.gc_command.proofs.Names.{◌≡◌, ◌≤◌, ◌-◌, ℕ, ◌++◌, List, drop, map, length, tokens, JobParts, FailedFiles, HasFailed, Fault, NameJobs, FirstBadJob}
 use Rattle.gc_command.proofs.binder.Binder.read_jobs.Given as goal
 
 -- What the lines that are left name, all of them name.

@@ -1,4 +1,4 @@
-use Rattle.gc_command.proofs.JobsNames.{◌==◌, fun_ext, slice_split, IfOk-weaker, IfErr-weaker}
+use Rattle.gc_command.proofs.Names.{◌==◌, fun_ext, slice_split, IfOk-weaker, IfErr-weaker}
 use Rattle.gc_command.proofs.JobListLemmas.{all_have_words}
 use Rattle.gc_command.proofs.JobsLemmas.{list-fault}
 use Rattle.gc_command.proofs.binder.Binder.read_listed_jobs.Goals as goal

@@ -1,4 +1,4 @@
-use Rattle.std.proofs.Common.{◌≡◌, ◌<◌, ◌≤◌, ◌*◌, ◌++◌, length}
+use Rattle.gc_command.proofs.Names.{◌≡◌, ◌<◌, ◌≤◌, ◌*◌, ◌++◌, length}
 use Rattle.gc_command.proofs.labels.LabelLines.next_lines.Given as goal
 
 abbrev pub invariant-loop-line : goal.invariant-loop-line

@@ -1,7 +1,4 @@
-use Rattle.std.proofs.Common.{◌≡◌, ◌∙◌, length, refl, sym, ap}
-use Rattle.std.proofs.lemmas.List.Folds.{flat_map-map}
-use Rattle.gc_netlist.proofs.Tables.{length-table}
-use Rattle.gc_command.specs.Labels.{WiresLeft}
+use Rattle.gc_command.proofs.Names.{◌≡◌, ◌∙◌, length, refl, sym, ap, flat_map-map, length-table, WiresLeft}
 use Rattle.gc_command.proofs.seeded_circuit.SeededCircuit.lines_of.Goals as goal
 
 pub invariant_of-result : goal.invariant_of-result

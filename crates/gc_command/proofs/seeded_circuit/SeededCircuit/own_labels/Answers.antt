@@ -1,4 +1,4 @@
-use Rattle.std.proofs.Common.{arith}
+use Rattle.gc_command.proofs.Names.{arith}
 use Rattle.gc_command.proofs.OwnFilesLemmas.{value-at, labels-more, own-width}
 use Rattle.gc_command.proofs.seeded_circuit.SeededCircuit.own_labels.Goals as goal
 

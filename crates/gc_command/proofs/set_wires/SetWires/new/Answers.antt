@@ -1,5 +1,4 @@
-use Rattle.std.proofs.Common.{arith}
-use Rattle.gc_netlist.proofs.Tables.{length-table}
+use Rattle.gc_command.proofs.Names.{arith, length-table}
 use Rattle.gc_command.proofs.WireLemmas.{all_left}
 use Rattle.gc_command.proofs.set_wires.SetWires.new.Goals as goal
 

@@ -1,5 +1,4 @@
-use Rattle.std.proofs.Common.{◌≡◌, ◌-◌, ◌<◌, false, length, take, filter, slice_index_or}
-use Rattle.std.specs.List.{range_with_len}
+use Rattle.gc_command.proofs.Names.{◌≡◌, ◌-◌, ◌<◌, false, length, take, filter, slice_index_or, range_with_len}
 use Rattle.gc_command.proofs.set_wires.SetWires.next.Given as goal
 
 abbrev pub invariant-loop-wire : goal.invariant-loop-wire
