@@ -1,13 +1,10 @@
 -- Lines and words, one more at a time.
-use Rattle.std.proofs.Common.{◌≡◌, ◌≢◌, ◌∙◌, ℕ, Bool, true, false, List, [], ◌∷◌, ◌++◌, append_assoc, ap, ap₂, sym, refl, length, map, Result, Ok, Err, true≢false, arith, subst, inl, inr}
-use Rattle.std.specs.Prelude.{◌==◌, OnOk, codes, bytes_eq, if◌then◌else◌}
-use Rattle.std.proofs.lemmas.Bool.{ne_eqb}
-use Rattle.std.proofs.lemmas.List.{append-nil}
+use Rattle.gc_cli.proofs.Names.{◌≡◌, ◌≢◌, ◌∙◌, ℕ, Bool, true, false, List, [], ◌∷◌, ◌++◌, append_assoc, ap, ap₂, sym, refl, length, map, true≢false, arith, subst, inl, inr, ◌==◌, codes, bytes_eq, if◌then◌else◌, append-nil, nil_from_length, ArePlain, no_more, one_more, AskForHelp, IsOption, LineStandsFor, StandForThemselves, WordsStandFor, help_last, AreLines, no_line, next_line, IsOneLine, BeginWithFile, IsEnd, IsPlain, FirstStandsFor, plain_word, FrontStandsFor, no_word, next_word, IsRefusedFile, IsRefusedNext, IsRefusedLine}
+use Rattle.std.proofs.lemmas.Bool.Decides.{nat_tests}
 use Rattle.std.proofs.lemmas.Slice.Eq.{bytes_eq-Decides}
 use Rattle.gc_disk.specs.Files.{FileBytes}
 use Rattle.gc_cli.specs.declared.arguments.Refusal.{Refusal}
 use Rattle.gc_cli.specs.declared.arguments.Refusal.TheVariants.{NoFile, CannotRead, Memory}
-use Rattle.gc_cli.specs.Arguments.{ArePlain, no_more, one_more, AskForHelp, IsOption, LineStandsFor, StandForThemselves, WordsStandFor, help_last, AreLines, no_line, next_line, IsOneLine, BeginWithFile, IsEnd, IsPlain, FirstStandsFor, plain_word, FrontStandsFor, no_word, next_word, IsRefusedFile, IsRefusedNext, IsRefusedLine}
 
 -- the front of the words, and then what comes first in the others
 pub front-next : (files : FileBytes) (words mid after given first : List (List ℕ))
@@ -28,13 +25,8 @@ lines-next text rest line after given before is one more later =
     rw append_assoc (before (line ∷ more) (rw is (next_line one later)))
 
 -- no text is left, or some is
-length-zero : (text : List ℕ) → (length text == 0) ≡ true → text ≡ []
-length-zero [] is = refl
-length-zero (b ∷ text) is =
-    absurd (true≢false (sym is ∙ ne_eqb (length (b ∷ text)) 0 (λ e. omega arith)))
-
 pub no-text : (text : List ℕ) (r : Bool) → r ≡ (length text == 0) → r ≡ true → AreLines text []
-no-text text r is empty = rw (length-zero text (sym is ∙ empty)) no_line
+no-text text r is empty = rw (nil_from_length text (grind (arith, nat_tests))) no_line
 
 pub some-text : (text : List ℕ) (r : Bool) → r ≡ (length text == 0) → r ≡ false → text ≢ []
 some-text text r is some none =
@@ -45,10 +37,6 @@ pub lines-end : (text rest : List ℕ) (given : List (List ℕ))
     → ((more : List (List ℕ)) → AreLines rest more → AreLines text (given ++ more))
     → AreLines rest [] → AreLines text given
 lines-end text rest given before none = rw append-nil at (before [] none)
-
-pub on-ok : {T E P Q : Type 0} (r : Result T E) → (P → Q) → OnOk r P → OnOk r Q
-on-ok (Ok x) f p = f p
-on-ok (Err e) f p = tt
 
 -- what `==` says of two texts
 pub same-text : (xs ys : List ℕ) (r : Bool) → r ≡ bytes_eq xs ys → r ≡ true → xs ≡ ys
@@ -89,16 +77,14 @@ module _ {X : Type 0} (f : X → List ℕ) where
   pub line-memory : (files : FileBytes) (Failed : List ℕ → Type 0) (words left : List X) (word : X)
       → words ≡ word ∷ left → IsRefusedLine files Failed (map f words) Memory
   line-memory files Failed words left word is =
-      rw (ap (map f) is)
-      record { given = []; left = map f left; front = no_word; next = tt }
+      rw is record { given = []; left = map f left; front = no_word; next = tt }
 
 -- a file that is refused is the reason why its words are
 pub next-refused : (files : FileBytes) (Failed : List ℕ → Type 0) (words : List (List ℕ))
     (name : List ℕ) (left : List (List ℕ)) (refusal : Refusal) → BeginWithFile words name left
     → IsRefusedFile files Failed name refusal → IsRefusedNext files Failed words refusal
 next-refused files Failed words name left NoFile begin refused = absurd refused
-next-refused files Failed words name left CannotRead begin refused =
-    (name, (left, (begin, refused)))
+next-refused files Failed words name left CannotRead begin refused = (_, (_, (begin, refused)))
 next-refused files Failed words name left Memory begin refused = tt
 
 -- Plain words stand for themselves.

@@ -1,26 +1,20 @@
 -- Words with a mistake ask for no text: of the kinds of error that clap's rules give for a line of the program, all
 -- ask for a text or none does.
-use Rattle.std.proofs.Common.{◌≡◌, ◌≢◌, ◌∙◌, ℕ, zero, suc, Bool, true, false, not, ◌&&◌, ◌||◌, ◌⊎◌, inl, inr, ⊎_elim, List, [], ◌∷◌, length, drop, Option, Some, None, is_some, refl, sym, ap, subst, true≢false}
-use Rattle.std.specs.Prelude.{if◌then◌else◌, ◌==◌, nat_lt, find, codes, encode_utf8, slice_get}
-use Rattle.std.specs.List.{list_any}
+use Rattle.gc_cli.proofs.Names.{◌≡◌, ◌≢◌, ◌∙◌, ℕ, zero, suc, Bool, true, false, not, ◌&&◌, ◌⊎◌, inl, inr, ⊎_elim, List, [], ◌∷◌, length, drop, Option, Some, None, refl, sym, ap, subst, true≢false, if◌then◌else◌, ◌==◌, nat_lt, find, encode_utf8, slice_get, chars, program}
 use Rattle.std.specs.Option.{option_map_or}
-use Rattle.std.specs.Str.{bytes_eq, chars}
 use Rattle.clap.specs.Lexer.{long_of, short_of}
-use Rattle.clap.specs.Facts.{explicit_source, parser_of_value, unwrap_or_range}
-use Rattle.clap.specs.ValueTests.{accepts}
 use Rattle.clap.specs.Values.{refused_kind}
-use Rattle.clap.specs.Walk.{Held, Names, Row, Rule, Step, next, trailing, subcommand, value, Text, Waiting, idle, option, positional, Walk, action_of, answers_to, arg_by_id, arg_by_index, arg_by_long, arg_by_short, attached_value, finished, has_row, is_empty, is_pending, most_values, nothing_held, reacted, settled, subcommand_met, takes_several, takes_values, values_or_missing, walk, walk_from, walked, with_default, word_met}
-use Rattle.clap.specs.Simple.{App, Shape, argument_words, built, entered, label_of, names_of}
-use Rattle.clap.specs.Takes.{is_given}
-use Rattle.clap.specs.Kinds.{IsAmong, Kinds, check_kinds, or_else, range_kinds, request_kinds, value_kinds, values_kinds}
-use Rattle.clap.specs.Faults.{values_fault, count_fault, set_fault, action_fault, use_fault, settle_fault, react_fault, option_fault, long_fault, short_fault, bundle_step_fault, flags_fault, bundle_fault, flag_word_fault, other_fault, word_fault, positional_fault, stray_fault, step_fault, turn_fault, walk_fault, default_fault, defaults_fault, check_fault, level_fault, entered_fault, built_fault, fault_of}
+use Rattle.clap.specs.Facts.{parser_of_value, unwrap_or_range}
+use Rattle.clap.specs.Walk.{settled, finished, walked, walk, word_met, most_values, values_or_missing, with_default, Held, Names, Row, Rule, Step, next, trailing, subcommand, value, Text, Waiting, option, Walk, action_of, answers_to, arg_by_id, arg_by_index, arg_by_long, arg_by_short, nothing_held, subcommand_met, walk_from}
+use Rattle.clap.specs.Simple.{App, Shape, argument_words, built, label_of, names_of}
+use Rattle.clap.specs.Kinds.{IsAmong, Kinds, or_else, range_kinds, request_kinds, value_kinds, values_kinds}
+use Rattle.clap.specs.Faults.{count_fault, set_fault, action_fault, use_fault, settle_fault, react_fault, option_fault, long_fault, short_fault, bundle_step_fault, flags_fault, flag_word_fault, other_fault, word_fault, positional_fault, step_fault, turn_fault, walk_fault, default_fault, defaults_fault, check_fault, level_fault, entered_fault, built_fault, fault_of}
 use Rattle.clap.specs.declared.builder.value_parser.ValueParser.{ValueParser}
 use Rattle.clap.specs.declared.builder.action.ArgAction.{ArgAction}
 use Rattle.clap.specs.declared.builder.action.ArgAction.TheVariants as action
 use Rattle.clap.specs.declared.error.kind.ErrorKind.{ErrorKind}
 use Rattle.clap.specs.declared.error.kind.ErrorKind.TheVariants as kind
 use Rattle.clap.proofs.OnLiterals.{clap_on_literals}
-use Rattle.gc_order.specs.Order.{program}
 use Rattle.gc_cli.specs.CommandLine.{IsMistaken}
 
 -- The kind asks for a text that goes to standard output.
@@ -60,28 +54,24 @@ stray-two : IsUniform (kind.UnknownArgument ∷ kind.InvalidSubcommand ∷ [])
 stray-two = record { agree = λ a b p q asks. absurd (stray-silent a p asks) }
 
 -- the kinds of one step, or of the next
-first : (a b : Kinds) → IsUniform a → IsUniform b → IsUniform (or_else a b)
-first [] b p q = q
-first (k ∷ ks) b p q = p
-
 both : {a b : Kinds} → IsUniform a → IsUniform b → IsUniform (or_else a b)
-both p q = first _ _ p q
+both {a = []} p q = q
+both {a = k ∷ ks} p q = p
 
 -- the kinds by a test, and by a value that may be there
 either : (c : Bool) {a b : Kinds} → IsUniform a → IsUniform b → IsUniform (if c then a else b)
 either true p q = p
 either false p q = q
 
-perhaps : {T : Type 0} (o : Option T) (f : T → Kinds) (d : Kinds) → ((x : T) → IsUniform (f x))
-    → IsUniform d
-    → IsUniform (option_map_or f o d)
-perhaps None f d p q = q
-perhaps (Some x) f d p q = p x
+perhaps : {T : Type 0} (o : Option T) {f : T → Kinds} {d : Kinds} → ((x : T) → IsUniform (f x))
+    → IsUniform d → IsUniform (option_map_or f o d)
+perhaps None p q = q
+perhaps (Some x) p q = p x
 
 -- ---- the kinds of single tests
 
 value_kinds-uniform : (i : Bool) (p : ValueParser) (t : Text) → IsUniform (value_kinds i p t)
-value_kinds-uniform i p t = either (accepts i p t) none (one (refused_kind p))
+value_kinds-uniform i p t = either _ none (one (refused_kind p))
 
 values_kinds-uniform : (i : Bool) (p : ValueParser) (ts : List Text)
     → IsUniform (values_kinds i p ts)
@@ -102,34 +92,25 @@ request_kinds-uniform action.HelpLong = one kind.DisplayHelp
 request_kinds-uniform action.Version = one kind.DisplayVersion
 request_kinds-uniform _ = none
 
-check_kinds-uniform : (help sub argument : Bool) → IsUniform (check_kinds help sub argument)
-check_kinds-uniform help sub argument =
-    either help (one kind.DisplayHelpOnMissingArgumentOrSubcommand)
-    (either sub (one kind.MissingSubcommand) (either argument (one kind.MissingRequiredArgument)
-    none))
-
 -- ---- one use of an argument
-
-values_fault-uniform : (a : Rule) (ts : List Text) → IsUniform (values_fault a ts)
-values_fault-uniform a ts = values_kinds-uniform a.ignore_case (parser_of_value a.parser) ts
 
 count_fault-uniform : (a : Rule) (ts : List Text) (rows : List Row)
     → IsUniform (count_fault a ts rows)
 count_fault-uniform a [] rows = value_kinds-uniform a.ignore_case (parser_of_value a.parser) _
-count_fault-uniform a (t ∷ ts) rows = values_fault-uniform a (t ∷ ts)
+count_fault-uniform a (t ∷ ts) rows =
+    values_kinds-uniform a.ignore_case (parser_of_value a.parser) (t ∷ ts)
 
 set_fault-uniform : (again : Bool) (a : Rule) (ts : List Text) (rows : List Row)
     → IsUniform (set_fault again a ts rows)
 set_fault-uniform again a ts rows =
-    both (either (has_row a.id rows && not again) (one kind.ArgumentConflict) none)
-    (values_fault-uniform a ts)
+    both (either _ (one kind.ArgumentConflict) none) (values_kinds-uniform _ _ ts)
 
 action_fault-uniform : (x : ArgAction) (again : Bool) (a : Rule) (ts : List Text) (rows : List Row)
     → IsUniform (action_fault x again a ts rows)
 action_fault-uniform action.Set again a ts rows = set_fault-uniform again a ts rows
 action_fault-uniform action.SetTrue again a ts rows = set_fault-uniform again a ts rows
 action_fault-uniform action.SetFalse again a ts rows = set_fault-uniform again a ts rows
-action_fault-uniform action.Append again a ts rows = values_fault-uniform a ts
+action_fault-uniform action.Append again a ts rows = values_kinds-uniform _ _ ts
 action_fault-uniform action.Count again a ts rows = count_fault-uniform a ts rows
 action_fault-uniform action.Help again a ts rows = one kind.DisplayHelp
 action_fault-uniform action.HelpShort again a ts rows = one kind.DisplayHelp
@@ -146,14 +127,12 @@ use_fault-uniform again a ts rows =
 
 module _ (c : List Rule) (again : Bool) where
   settle_fault-uniform : (h : Held) → IsUniform (settle_fault c again h)
-  settle_fault-uniform h = perhaps h.pending _ []
-      (λ p. perhaps (arg_by_id c p.0) (λ a. use_fault again a p.1 h.rows) []
-      (λ a. use_fault-uniform again a p.1 h.rows) none) none
+  settle_fault-uniform h = perhaps h.pending
+      (λ p. perhaps (arg_by_id c p.0) (λ a. use_fault-uniform again a p.1 h.rows) none) none
 
   react_fault-uniform : (a : Rule) (ts : List Text) (h : Held)
       → IsUniform (react_fault c again a ts h)
-  react_fault-uniform a ts h = both (settle_fault-uniform h)
-      (use_fault-uniform again a ts (settled c h).rows)
+  react_fault-uniform a ts h = both (settle_fault-uniform h) (use_fault-uniform again a ts _)
 
   option_fault-uniform : (a : Rule) (o : Option Text) (h : Held)
       → IsUniform (option_fault c again a o h)
@@ -163,46 +142,39 @@ module _ (c : List Rule) (again : Bool) where
   long_fault-uniform : (o : Option Rule) (v : Option Text) (h : Held)
       → IsUniform (long_fault c again o v h)
   long_fault-uniform None v h = one kind.UnknownArgument
-  long_fault-uniform (Some a) v h = either (takes_values a) (option_fault-uniform a v h)
-      (either (is_some v) (one kind.TooManyValues) (react_fault-uniform a [] h))
+  long_fault-uniform (Some a) v h = either _ (option_fault-uniform a v h)
+      (either _ (one kind.TooManyValues) (react_fault-uniform a [] h))
 
   short_fault-uniform : (o : Option Rule) (rest : Text) (h : Held) (more : Held → Kinds)
-      → ((x : Held) → IsUniform (more x))
-      → IsUniform (short_fault c again o rest h more)
+      → ((x : Held) → IsUniform (more x)) → IsUniform (short_fault c again o rest h more)
   short_fault-uniform None rest h more each = one kind.UnknownArgument
   short_fault-uniform (Some a) rest h more each =
-      either (takes_values a) (option_fault-uniform a (attached_value rest) h)
-      (both (react_fault-uniform a [] h) (each (reacted c a [] h)))
+      either _ (option_fault-uniform a _ h) (both (react_fault-uniform a [] h) (each _))
 
   bundle_step_fault-uniform : (o : Option ℕ) (flags : Text) (skip : ℕ) (h : Held)
-      (more : Text → ℕ → Held → Kinds)
-      → ((t : Text) (n : ℕ) (x : Held) → IsUniform (more t n x))
+      (more : Text → ℕ → Held → Kinds) → ((t : Text) (n : ℕ) (x : Held) → IsUniform (more t n x))
       → IsUniform (bundle_step_fault c again o flags skip h more)
   bundle_step_fault-uniform None flags skip h more each = none
   bundle_step_fault-uniform (Some x) flags zero h more each =
       let rest = drop (length (encode_utf8 x)) flags in
       short_fault-uniform (arg_by_short c x) rest h (more rest 0) (each rest 0)
-  bundle_step_fault-uniform (Some x) flags (suc skip) h more each = each
-      (drop (length (encode_utf8 x)) flags) skip h
+  bundle_step_fault-uniform (Some x) flags (suc skip) h more each = each _ skip h
 
   flags_fault-uniform : (k : ℕ) (flags : Text) (skip : ℕ) (h : Held)
       → IsUniform (flags_fault c again k flags skip h)
   unfolding flags_fault
   flags_fault-uniform zero flags skip h = none
   flags_fault-uniform (suc k) flags skip h =
-      bundle_step_fault-uniform (slice_get (chars flags) 0) flags skip h (flags_fault c again k)
-      (flags_fault-uniform k)
+      bundle_step_fault-uniform (slice_get (chars flags) 0) flags skip h _ (flags_fault-uniform k)
 
   flag_word_fault-uniform : (o : Option (Text × Option Text)) (word : Text) (h : Held)
       → IsUniform (flag_word_fault c again o word h)
   flag_word_fault-uniform (Some p) word h = long_fault-uniform (arg_by_long c p.0) p.1 h
   flag_word_fault-uniform None word h = perhaps (short_of word)
-      (λ flags. bundle_fault c again flags h) []
       (λ flags. flags_fault-uniform (length flags) flags h.skip (record h { skip = 0 })) none
 
   positional_fault-uniform : (a : Rule) (h : Held) → IsUniform (positional_fault c again a h)
-  positional_fault-uniform a h = either (is_pending a h.pending && takes_several a) none
-      (settle_fault-uniform h)
+  positional_fault-uniform a h = either _ none (settle_fault-uniform h)
 
 -- a subcommand `help` that is turned off asks for no help
 no_help : (named off : Bool) → off ≡ true
@@ -213,20 +185,16 @@ no_help true false e = absurd (true≢false (sym e))
 
 -- a word that names no subcommand
 other_word-uniform : (s : Shape) (word : Text) (h : Held) → IsUniform (other_fault s None word h)
-other_word-uniform s word h = either (bytes_eq word (45 ∷ 45 ∷ [])) none
-    (flag_word_fault-uniform s.rules s.args_override_self (long_of word) word h)
+other_word-uniform s word h = either _ none (flag_word_fault-uniform s.rules _ (long_of word) word h)
 
-off-uniform : (s : Shape) → s.disable_help_subcommand ≡ true
-    → (o : Option Text) (word : Text) (h : Held)
-    → IsUniform (other_fault s o word h)
-off-uniform s off (Some name) word h = no_help (bytes_eq name (codes "help"))
-    s.disable_help_subcommand off
+off-uniform : (s : Shape) → s.disable_help_subcommand ≡ true → (o : Option Text) (word : Text)
+    (h : Held) → IsUniform (other_fault s o word h)
+off-uniform s off (Some name) word h = no_help _ s.disable_help_subcommand off
 off-uniform s off None word h = other_word-uniform s word h
 
 none-met : (waiting : Waiting) (word : Text) → subcommand_met [] waiting word ≡ None
-none-met idle word = refl
 none-met (option id) word = refl
-none-met positional word = refl
+none-met _ word = refl
 
 -- The command has no subcommand `help`: it is turned off, or there is no subcommand.
 abbrev LacksHelp : Shape → Names → Type 0
@@ -244,13 +212,10 @@ module _ (s : Shape) (names : Names) (lacks : LacksHelp s names) where
 
   word_fault-uniform : (is_trailing : Bool) (waiting : Waiting) (word : Text) (h : Held)
       → IsUniform (word_fault s names is_trailing waiting word h)
-  word_fault-uniform is_trailing waiting word h = either is_trailing none
-      (other_fault-uniform waiting word h)
+  word_fault-uniform is_trailing waiting word h = either _ none (other_fault-uniform waiting word h)
 
   step_fault-uniform : (position : ℕ) (h : Held) (x : Step) → IsUniform (step_fault s position h x)
-  step_fault-uniform position h value =
-      perhaps (arg_by_index s.rules position) (λ a. positional_fault s.rules s.args_override_self a
-      h) (stray_fault s)
+  step_fault-uniform position h value = perhaps (arg_by_index s.rules position)
       (λ a. positional_fault-uniform s.rules s.args_override_self a h)
       (either s.is_leaf (one kind.UnknownArgument) stray-two)
   step_fault-uniform position h (next waiting) = none
@@ -260,8 +225,7 @@ module _ (s : Shape) (names : Names) (lacks : LacksHelp s names) where
   turn_fault-uniform : (w : Walk) (word : Text) → IsUniform (turn_fault s names w word)
   turn_fault-uniform w word =
       let met = word_met s.rules names w.is_trailing w.waiting w.position word w.held in
-      either (is_some w.stopped) none
-      (both (word_fault-uniform w.is_trailing w.waiting word w.held)
+      either _ none (both (word_fault-uniform w.is_trailing w.waiting word w.held)
       (step_fault-uniform w.position met.0 met.1))
 
   walk_fault-uniform : (w : Walk) (words : List Text) → IsUniform (walk_fault s names w words)
@@ -273,11 +237,10 @@ module _ (s : Shape) (names : Names) (lacks : LacksHelp s names) where
 -- ---- after the walk
 
 default_fault-uniform : (rows : List Row) (a : Rule) → IsUniform (default_fault rows a)
-default_fault-uniform rows a = either (has_row a.id rows || is_empty a.defaults) none
-    (both (request_kinds-uniform (action_of a)) (values_fault-uniform a a.defaults))
+default_fault-uniform rows a =
+    either _ none (both (request_kinds-uniform (action_of a)) (values_kinds-uniform _ _ a.defaults))
 
-defaults_fault-uniform : (rows : List Row) (rules : List Rule)
-    → IsUniform (defaults_fault rows rules)
+defaults_fault-uniform : (rows : List Row) (rules : List Rule) → IsUniform (defaults_fault rows rules)
 unfolding defaults_fault
 defaults_fault-uniform rows [] = none
 defaults_fault-uniform rows (a ∷ rest) =
@@ -285,16 +248,12 @@ defaults_fault-uniform rows (a ∷ rest) =
 
 check_fault-uniform : (s : Shape) (rows : List Row) (has_subcommand : Bool)
     → IsUniform (check_fault s rows has_subcommand)
-check_fault-uniform s rows has_subcommand = check_kinds-uniform
-    (not has_subcommand && (s.arg_required_else_help &&
-    not (list_any (λ r. explicit_source r.source) rows)))
-    (not has_subcommand && s.subcommand_required)
-    (not (s.subcommand_negates_reqs && has_subcommand)
-    && list_any (λ a. a.required && not (is_given a.id rows)) s.rules)
+check_fault-uniform s rows has_subcommand =
+    either _ (one kind.DisplayHelpOnMissingArgumentOrSubcommand)
+    (either _ (one kind.MissingSubcommand) (either _ (one kind.MissingRequiredArgument) none))
 
-level_fault-uniform : (s : Shape) (names : Names) → LacksHelp s names
-    → (h : Held) (words : List Text)
-    (has_subcommand : Bool) (below : Kinds) → IsUniform below
+level_fault-uniform : (s : Shape) (names : Names) → LacksHelp s names → (h : Held)
+    (words : List Text) (has_subcommand : Bool) (below : Kinds) → IsUniform below
     → IsUniform (level_fault s names h words has_subcommand below)
 level_fault-uniform s names lacks h words has_subcommand below p =
     let end = (walk s.rules names h words).held in
@@ -305,19 +264,15 @@ level_fault-uniform s names lacks h words has_subcommand below p =
 
 entered_fault-uniform : (a : App) (stop : Option (Text × List Text))
     → IsUniform (entered_fault a stop)
-entered_fault-uniform a stop = perhaps stop _ []
+entered_fault-uniform a stop = perhaps stop
     (λ p. perhaps (find (λ s. answers_to p.0 (label_of s)) a.subs)
-    (λ s. level_fault s [] nothing_held p.1 false []) []
     (λ s. level_fault-uniform s [] (inr refl) nothing_held p.1 false [] none) none) none
 
-built_fault-uniform : (a : App) → a.top.disable_help_subcommand ≡ true
-    → (h : Held) (words : List Text)
-    → IsUniform (built_fault a h words)
+built_fault-uniform : (a : App) → a.top.disable_help_subcommand ≡ true → (h : Held)
+    (words : List Text) → IsUniform (built_fault a h words)
 built_fault-uniform a off h words =
     let stop = (walk a.top.rules (names_of a) h words).stopped in
-    level_fault-uniform a.top (names_of a) (inl off) h words (is_some (entered a stop))
-    (entered_fault a stop)
-    (entered_fault-uniform a stop)
+    level_fault-uniform a.top (names_of a) (inl off) h words _ _ (entered_fault-uniform a stop)
 
 -- ---- the program
 
@@ -339,8 +294,7 @@ text-kinds _ asks = absurd (true≢false (sym asks))
 pub IsMistaken-other_kind : (words : List Text) (k : ErrorKind) → IsAmong k (fault_of program words)
     → k ≢ kind.DisplayHelp → k ≢ kind.DisplayVersion → IsMistaken words
 IsMistaken-other_kind words k among no_help no_version =
-    let other : asks_for_text k ≡ true → ⊥ = λ asks. ⊎_elim no_help no_version
-    (text-kinds k asks) in
+    let other : asks_for_text k ≡ true → ⊥ = λ asks. ⊎_elim no_help no_version (text-kinds k asks) in
     let agree = (fault_of-uniform words).agree in (
       λ faultless. subst (IsAmong k) faultless among,
       λ asks. ⊎_elim (λ help. other (agree kind.DisplayHelp k help among refl))

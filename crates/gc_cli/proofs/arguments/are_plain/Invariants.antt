@@ -1,5 +1,4 @@
-use Rattle.std.proofs.Common.{map, string_bytes, length}
-use Rattle.gc_cli.specs.Arguments.{ArePlain}
+use Rattle.gc_cli.proofs.Names.{map, string_bytes, length, ArePlain}
 use Rattle.gc_cli.proofs.arguments.are_plain.Given as goal
 
 -- the words that are left are plain exactly where all are

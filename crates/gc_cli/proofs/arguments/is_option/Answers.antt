@@ -1,4 +1,4 @@
-use Rattle.std.proofs.Common.{inr, ⊎_elim}
+use Rattle.gc_cli.proofs.Names.{inr, ⊎_elim}
 use Rattle.gc_cli.proofs.ArgumentsLemmas.{other-text}
 use Rattle.gc_cli.proofs.arguments.is_option.Goals as goal
 

@@ -1,5 +1,4 @@
-use Rattle.std.proofs.Common.{◌≡◌, ◌++◌, ℕ, List, map, string_bytes, length}
-use Rattle.gc_cli.specs.Arguments.{FrontStandsFor}
+use Rattle.gc_cli.proofs.Names.{◌≡◌, ◌++◌, ℕ, List, map, string_bytes, length, FrontStandsFor}
 use Rattle.gc_cli.proofs.arguments.push_arguments.Given as goal
 
 -- the arguments so far are those that the words in front stand for

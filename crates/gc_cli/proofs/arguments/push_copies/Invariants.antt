@@ -1,4 +1,4 @@
-use Rattle.std.proofs.Common.{◌≡◌, ◌++◌, map, string_bytes, take}
+use Rattle.gc_cli.proofs.Names.{◌≡◌, ◌++◌, map, string_bytes, take}
 use Rattle.gc_cli.proofs.arguments.push_copies.Given as goal
 
 abbrev pub invariant-loop-word : goal.invariant-loop-word

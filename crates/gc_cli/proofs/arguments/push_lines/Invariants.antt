@@ -1,7 +1,6 @@
-use Rattle.std.proofs.Common.{◌≡◌, ◌++◌, ℕ, List, map, string_bytes, length}
+use Rattle.gc_cli.proofs.Names.{◌≡◌, ◌++◌, ℕ, List, map, string_bytes, length, AreLines}
 use denote.Text.{Utf8}
 use denote.Shadow.{shadow}
-use Rattle.gc_cli.specs.Arguments.{AreLines}
 use Rattle.gc_cli.proofs.arguments.push_lines.Given as goal
 
 -- the lines so far are added, and with those of the rest they are the text's

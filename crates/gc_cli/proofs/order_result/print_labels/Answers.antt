@@ -1,5 +1,4 @@
-use Rattle.std.proofs.Common.{◌++◌, ◌∙◌, append_assoc, ap, sym}
-use Rattle.std.specs.Io.KnownBytes.{Appends}
+use Rattle.gc_cli.proofs.Names.{◌++◌, ◌∙◌, append_assoc, ap, sym}
 use Rattle.std.proofs.KnownBytes.{Appends-trans}
 use Rattle.gc_cli.proofs.order_result.print_labels.Goals as goal
 
@@ -7,15 +6,13 @@ pub loop-piece-preserved : goal.loop-piece-preserved
 loop-piece-preserved g c =
     let before = c.loop-piece.invariant.printed in
     let piece = c.next_lines-piece.result.items in
-    let at : Appends c.loop-piece.out.contents c.print_bytes.new.out.contents piece =
-    rw c.deref.ensures.0 at c.in_ok-print_bytes.ensures.done.0 in
+    let at = rw c.deref.ensures.0 at c.in_ok-print_bytes.ensures.done.0 in
     record {
       printed = (
         before.0 ++ piece,
         before.1 ∙ ap (λ l. before.0 ++ l) c.next_lines-piece.ensures.taken
             ∙ sym (append_assoc before.0 piece c.next_lines-piece.new.self),
-        Appends-trans c.args.out.now.contents c.loop-piece.out.contents
-            c.print_bytes.new.out.contents before.0 piece before.2 at,
+        Appends-trans _ _ _ before.0 piece before.2 at,
       );
       counted = c.in_ok-print_bytes.ensures.done.1 ∙ c.loop-piece.invariant.counted;
     }

@@ -1,4 +1,4 @@
-use Rattle.std.proofs.Common.{◌≡◌, ℕ, ◌++◌, List, length}
+use Rattle.gc_cli.proofs.Names.{◌≡◌, ℕ, ◌++◌, List, length}
 use Rattle.std.specs.Io.KnownBytes.{Appends}
 use Rattle.gc_cli.proofs.order_result.print_labels.Given as goal
 

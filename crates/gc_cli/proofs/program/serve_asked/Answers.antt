@@ -1,6 +1,4 @@
-use Rattle.std.proofs.Common.{rules, ⊎_elim, inl, inr, arith, refl}
-use Rattle.clap.specs.Words.{kind_of}
-use Rattle.gc_order.specs.Order.{order_text}
+use Rattle.gc_cli.proofs.Names.{rules, ⊎_elim, inl, inr, arith, refl, order_text}
 use Rattle.gc_command.specs.declared.fault.Fault.TheVariants.{CannotWrite}
 use Rattle.gc_cli.proofs.MistakeLemmas.{IsMistaken-other_kind}
 use Rattle.gc_cli.proofs.program.serve_asked.Goals as goal
@@ -31,11 +29,8 @@ returns-in-Ok-clause-fault g c = λ _ words old new is.
 pub returns-clause-usage : goal.returns-clause-usage
 returns-clause-usage g c = λ _ words old new is.
     let other = c.use_stderr.ensures.0 c.if-not-use_stderr.false in
-    ⊎_elim
-    (λ listed.
-    inl (IsMistaken-other_kind words (kind_of c.in-Err.help) listed.0 other.0 other.1))
-    (λ short. inr (omega (arith, short.1)))
-    (rw c.in-Err.is at is)
+    ⊎_elim (λ listed. inl (IsMistaken-other_kind words _ listed.0 other.0 other.1))
+    (λ short. inr (omega (arith, short.1))) (rw c.in-Err.is at is)
 
 pub returns-in-Err-clause-fault : goal.returns-in-Err-clause-fault
 returns-in-Err-clause-fault g c = λ _ words old new is.

@@ -1,5 +1,4 @@
-use Rattle.std.proofs.Common.{◌∙◌, inl, inr, map, string_bytes, ⊎_elim}
-use mathlib.Core.Path.{fun_ext}
+use Rattle.gc_cli.proofs.Names.{◌∙◌, inl, inr, map, string_bytes, ⊎_elim, fun_ext}
 use Rattle.gc_cli.proofs.ArgumentsLemmas.{themselves-stand}
 use Rattle.gc_cli.proofs.whole_run.serve.Goals as goal
 
