@@ -1,18 +1,18 @@
 -- Making, joining and closing keep the rule of one board.
-use Rattle.std.proofs.Common.{rules, ◌≡◌, ℕ, ◌+◌, ◌*◌, ◌<◌, List, [], ◌∷◌, ◌++◌, sym, refl, ap, ◌∙◌, arith, replicate}
+use Rattle.std.proofs.Common.{rules, ◌≡◌, ℕ, ◌+◌, ◌*◌, ◌<◌, List, [], ◌∷◌, sym, refl, ◌∙◌, arith, replicate}
 use Rattle.std.proofs.lemmas.List.{length-replicate}
 use Rattle.atomic_table.specs.Table.{State, Splits, Joins, Final, Seen}
-use Rattle.atomic_table.proofs.Lists.{set_else}
-use Rattle.gc_workers.proofs.Sums.{total-append, total-dealt, total-joined, each-one, each-dealt, each-joined, only_other, zeros}
+use Rattle.gc_workers.proofs.Sums.{total-dealt, total-joined, each-one, each-dealt, each-joined, only_other, zeros}
 use Rattle.gc_rounds.specs.Steps.{one_less, merged, nobody}
 use Rattle.gc_rounds.specs.declared.view.View.{View}
 use Rattle.gc_rounds.specs.declared.view.Key.{Key}
 use Rattle.gc_rounds.specs.declared.view.Position.TheVariants.{Inside}
-use Rattle.gc_gates.specs.Pairs.{is_pair, pairs, is_look, looked}
+use Rattle.gc_gates.specs.Pairs.{pairs}
 use Rattle.gc_gates.specs.Layout.{one_round}
-use Rattle.gc_gates.specs.Gates.{state_of, in_hand, IsSoundView, Sound, no_view}
+use Rattle.gc_gates.specs.Gates.{in_hand, IsSoundView, Sound, no_view}
 use Rattle.gc_gates.specs.Steps.{joined}
 use Rattle.gc_gates.specs.Board.{Dealt, first_seat, dealt_seat, note_of, AtRest}
+use Rattle.gc_gates.specs.BankLaws.{blank, opened, cut, joins_views}
 use Rattle.gc_gates.specs.BoardLaw.{one_round_law}
 use Rattle.gc_gates.specs.declared.view.GateView.{GateView}
 use Rattle.gc_gates.specs.declared.view.Hand.TheVariants.{Empty}
@@ -28,42 +28,14 @@ module _ {J : Type 0} (gates : J → ℕ) (right : J → ℕ → ℕ → ℕ →
   abbrev Fits : List ℕ → View (GateView J) → Type 0
   Fits words v = IsSoundView one_round gates right key.about words v
 
-  -- a view that says nothing of the words
-  blank : (words : List ℕ) (v : View (GateView J)) → v.inner.hand ≡ Empty → v.inner.made ≡ []
-      → v.inner.known ≡ [] → v.inner.looks ≡ [] → Fits words v
-  blank words v hand made known looks = record {
-    holding = rw hand tt;
-    inside = λ r g phase e. absurd (cc);
-    knows = λ r g k. absurd (omega (arith, ap (pairs r g) known));
-    looks = λ r g n k. absurd (omega (arith, ap (looked r g n) looks));
-    spent = λ _. (hand, made);
-  }
-
   pub opens : (n : ℕ) → n ≡ 3 * gates key.about + 1 → 0 < key.seats
       → Dealt key.seats (first_seat key ∷ [])
       × Sound one_round gates right key.about (replicate n 0) (first_seat key ∷ [])
-  opens n is some_seat =
-      let free : (r g : ℕ)
-      → state_of one_round (replicate n 0) r g ≡ 0 =
-      λ r g. zeros n (3 * g) in (
-        record {
-          dealt = omega arith;
-          here = each-one Here (first_seat key) (λ r e. cc);
-        },
-        record {
-          long = length-replicate n 0 ∙ is;
-          cells = λ r g. record {
-            state = omega (arith, free r g);
-            round = omega (arith, free r g);
-            low = λ e. absurd (omega (arith, free r g));
-            high = λ e. absurd (omega (arith, free r g));
-          };
-          hands = λ r g. omega (arith, free r g, only_other);
-          once = λ r g. omega arith;
-          mades = λ r g l. omega (arith, free r g, only_other);
-          fits = each-one _ (first_seat key) (blank (replicate n 0) _ refl refl refl refl);
-        },
-      )
+  opens n is some_seat = (
+    record { dealt = omega arith; here = each-one Here (first_seat key) (λ r e. cc) },
+    opened one_round gates right key.about (replicate n 0) (first_seat key)
+        (length-replicate n 0 ∙ is) (λ r g. zeros n (3 * g)) refl,
+  )
 
   -- A view is cut in two. The first stays where it is.
   splits : (id : ℕ) (v left other : View (GateView J)) → left.seats + other.seats ≡ v.seats
@@ -75,30 +47,21 @@ module _ {J : Type 0} (gates : J → ℕ) (right : J → ℕ → ℕ → ℕ →
       → ((words : List ℕ) → Fits words v → Fits words left × Fits words other)
       → Splits Holds id v left other
   splits id v left other seats stays there hand made fit s o at =
-      let totals = λ (m : View (GateView J) → ℕ). total-dealt m s.views id v left other at in
-      let makes = λ (r g : ℕ). totals (λ u. pairs r g u.inner.made) in
       let both = fit s.words (o.1.fits id v at) in (
         record {
-          dealt = omega (arith, totals (λ u. u.seats), o.0.dealt);
+          dealt = omega (arith, total-dealt (λ u. u.seats) s.views id v left other at, o.0.dealt);
           here = each-dealt Here s.views id left other o.0.here
               (λ r e. o.0.here id v at r (sym stays ∙ e)) there;
         },
-        record {
-          long = o.1.long;
-          cells = o.1.cells;
-          hands = λ r g. omega
-              (arith, totals (λ u. in_hand r g u.inner.hand), hand r g, o.1.hands r g);
-          once = λ r g. omega (arith, makes r g, made r g, o.1.once r g);
-          mades = λ r g le. omega (arith, makes r g, made r g, o.1.mades r g le);
-          fits = each-dealt _ s.views id left other o.1.fits both.0 both.1;
-        },
+        cut one_round gates right key.about s.words s.views id v left other o.1 at hand made
+            both.0 both.1,
       )
 
   pub deals : (id : ℕ) (v : View (GateView J)) → 1 < v.seats
       → Splits Holds id v (one_less v) (dealt_seat v)
   deals id v several = splits id v (one_less v) (dealt_seat v) (omega arith) refl (λ r e. cc)
       (λ r g. omega arith) (λ r g. omega arith)
-      (λ words f. (search (rules, f), blank words _ refl refl refl refl))
+      (λ words f. (search (rules, f), blank one_round gates right key.about words _ refl refl refl refl))
 
   pub notes : (id : ℕ) (v : View (GateView J)) → Splits Holds id v v (note_of v)
   notes id v = splits id v v (note_of v) (omega arith) refl (λ r e. absurd (cc))
@@ -108,39 +71,18 @@ module _ {J : Type 0} (gates : J → ℕ) (right : J → ℕ → ℕ → ℕ →
       → w.inner.hand ≡ Empty
       → Joins Holds id v other w (merged v w (joined v.inner w.inner)) (nobody no_view)
   joins id v other w empty s o at apart there =
-      let both = merged v w (joined v.inner w.inner) in let f = o.1.fits id v at in
-      let theirs = o.1.fits other w (sym (set_else s.views id other both apart) ∙ there) in
-      let totals = λ (m : View (GateView J) → ℕ).
-      total-joined m s.views id other v both w (nobody no_view) at there in
-      let made = λ (r g : ℕ). total-append (is_pair r g) v.inner.made w.inner.made in
-      let makes = λ (r g : ℕ). totals (λ u. pairs r g u.inner.made) in (
+      let both = merged v w (joined v.inner w.inner) in let none_left = nobody no_view in (
         record {
-          dealt = omega (arith, totals (λ u. u.seats), o.0.dealt);
-          here = each-joined Here s.views id other both (nobody no_view) o.0.here
+          dealt = omega (
+            arith,
+            total-joined (λ u. u.seats) s.views id other v both w none_left at there,
+            o.0.dealt,
+          );
+          here = each-joined Here s.views id other both none_left o.0.here
               (o.0.here id v at) (λ r e. absurd (cc));
         },
-        record {
-          long = o.1.long;
-          cells = o.1.cells;
-          hands = λ r g. let none_there = ap (in_hand r g) empty in
-              omega (arith, totals (λ u. in_hand r g u.inner.hand), o.1.hands r g);
-          once = λ r g. omega (arith, makes r g, made r g, o.1.once r g);
-          mades = λ r g le. omega (arith, makes r g, made r g, o.1.mades r g le);
-          fits = each-joined _ s.views id other both (nobody no_view) o.1.fits
-              (record {
-                holding = f.holding;
-                inside = f.inside;
-                knows = λ r g k.
-                    let adds = total-append (is_pair r g) v.inner.known w.inner.known in
-                    let mine = f.knows r g in let known = theirs.knows r g in grind arith;
-                looks = λ r g n k.
-                    let adds = total-append (is_look r g n) v.inner.looks w.inner.looks in
-                    let mine = f.looks r g n in let known = theirs.looks r g n in grind arith;
-                spent = λ z. let a = f.spent (omega arith) in let b = theirs.spent (omega arith) in
-                    (a.0, λ i. a.1 i ++ b.1 i);
-              })
-              (blank s.words (nobody no_view) refl refl refl refl);
-        },
+        joins_views one_round gates right key.about s.words s.views id other v w o.1 at apart
+            there empty,
       )
 
   -- a view that stands for all seats made what all made

@@ -17,7 +17,6 @@ use Rattle.gc_rounds.specs.Words.{round_of, stamp}
 use Rattle.gc_rounds.specs.declared.view.Key.{Key}
 use Rattle.gc_gates.specs.Layout.{Layout}
 use Rattle.gc_gates.specs.Frame.{IsBeside, Stepped, FrameLaw}
-use Rattle.gc_rounds.specs.declared.view.View.{View}
 use Rattle.gc_rounds.specs.declared.view.Position.TheVariants.{Inside}
 use Rattle.gc_rounds.specs.declared.view.Step.{Step}
 use Rattle.gc_rounds.specs.declared.view.Step.TheVariants.{Load, Store, Claim}
@@ -26,15 +25,11 @@ use Rattle.gc_gates.specs.Pairs.{is_pair, pairs, looked}
 use Rattle.gc_gates.specs.Gates.{in_hand, low_of, high_of}
 use Rattle.gc_gates.specs.Gates as board
 use Rattle.gc_gates.specs.Steps.{Finds, changed, learnt, after_state, after_half, after_stored, after_done, state_loaded, claimed, half_stored, done_stored, once_learnt}
+use Rattle.gc_gates.specs.BankLaws.{SeatView, SameHalves, Lasting, Up, looks_last, fits_last}
 use Rattle.gc_gates.specs.Places.{IsPlaceAt}
-use Rattle.gc_gates.specs.declared.view.GateView.{GateView}
 use Rattle.gc_gates.specs.declared.view.Hand.{Hand}
 use Rattle.gc_gates.specs.declared.view.Hand.TheVariants.{Empty, Has}
 use Rattle.gc_gates.proofs.PairLemmas.{pair_same, pair_is, look_is, someone, hand_is}
-
--- the view of a seat
-abbrev SeatView : Type 0 → Type 0
-SeatView J = View (GateView J)
 
 module _ (lay : Layout) where
   -- the words lie so
@@ -44,24 +39,9 @@ module _ (lay : Layout) where
   abbrev state_of : List ℕ → ℕ → ℕ → ℕ
   state_of words r g = board.state_of lay words r g
 
-  -- the halves of a gate are the same in both
-  abbrev SameHalves : List ℕ → List ℕ → ℕ → ℕ → Type 0
-  SameHalves before now k h =
-      (low_of lay now k h ≡ low_of lay before k h) × (high_of lay now k h ≡ high_of lay before k h)
-
-  -- what a list of known gates and one of looks say of the words
+  -- what a list of known gates says of the words
   abbrev Known : List ℕ → List (ℕ × ℕ) → Type 0
   Known words known = (k h : ℕ) → 0 < pairs k h known → stamp k DONE ≤ state_of words k h
-
-  abbrev Lasting : List ℕ → List (ℕ × ℕ × ℕ) → Type 0
-  Lasting words looks = (k h n : ℕ) → 0 < looked k h n looks
-      → (k ≤ lay.now words k) × ((state_of words k h ≡ n) ⊎ (stamp k FREE < state_of words k h))
-
-  -- No bank's round changes, and a state that changes goes up, to a round that its bank has reached.
-  record Up (before now : List ℕ) : Type 0 where
-    pub rounds : (k : ℕ) → lay.now now k ≡ lay.now before k
-    pub moves : (k h : ℕ) → (state_of before k h ≤ state_of now k h) × (k ≤ lay.now before k
-        → (state_of now k h ≡ state_of before k h) ⊎ (stamp k FREE < state_of now k h))
 
   -- a step beside the banks
   beside : {J : Type 0} (v : SeatView J) (hand : Hand) (made known : List (ℕ × ℕ))
@@ -69,11 +49,6 @@ module _ (lay : Layout) where
       → Stepped v (changed v hand made known looks e) e
   beside v hand made known looks e idle =
       record { beside = idle; position = refl; all = refl; seats = refl; steps = refl }
-
-  looks_last : (before now : List ℕ) (looks : List (ℕ × ℕ × ℕ)) → Up before now
-      → Lasting before looks → Lasting now looks
-  looks_last before now looks up f k h n more =
-      let was = f k h n more in let goes = up.moves k h in let same = up.rounds k in grind arith
 
   -- one more gate is known that is done
   knows_too : (words : List ℕ) (known : List (ℕ × ℕ)) (r g : ℕ) → stamp r DONE ≤ state_of words r g
@@ -96,14 +71,6 @@ module _ (lay : Layout) where
 
     abbrev Rule : List ℕ → List (SeatView J) → Type 0
     Rule words views = outer key words views × board.Sound lay gates right job words views
-
-    hand_moves : (before now : List ℕ) (hand : Hand)
-        → ((k h phase : ℕ) → hand ≡ Has k h phase → SameHalves before now k h)
-        → board.IsHandRight lay gates right job before hand
-        → board.IsHandRight lay gates right job now hand
-    hand_moves before now Empty same h = tt
-    hand_moves before now (Has k h phase) same f = let e = same k h phase refl in
-        ((λ l. rw e.0 (f.0 l)), (λ l. rw e.1 (f.1 l)))
 
     -- state 1 is of the bank's round
     one_round : (words : List ℕ) (views : List (SeatView J)) (k h : ℕ) → Rule words views
@@ -131,7 +98,7 @@ module _ (lay : Layout) where
     -- a load leaves the words, and may tell what is known of them
     loaded : (words : List ℕ) (views : List (SeatView J)) (i id : ℕ) (v : SeatView J)
         (known : List (ℕ × ℕ)) (looks : List (ℕ × ℕ × ℕ)) (e : Step) → IsBeside e → Rule words views
-        → get_elem? views id ≡ some v → Known words known → Lasting words looks
+        → get_elem? views id ≡ some v → Known words known → Lasting lay words looks
         → Rule (set words i (get_or words i 0))
         (set views id (changed v v.inner.hand v.inner.made known looks e))
     loaded words views i id v known looks e idle o at_id knows lasting =
@@ -281,10 +248,10 @@ module _ (lay : Layout) where
           (λ e. ne (law.layout.apart r g k h i j below three (omega (arith, e, is, at_x))).2) in
           let stay : (k h : ℕ) → at k h ≢ at r g → state_of now k h ≡ state_of words k h =
           λ k h ne. stays k h 0 (at k h) ne (omega arith) (omega arith) in
-          let halves : (k h : ℕ) → at k h ≢ at r g → SameHalves words now k h = λ k h ne.
+          let halves : (k h : ℕ) → at k h ≢ at r g → SameHalves lay words now k h = λ k h ne.
           (stays k h 1 _ ne (omega arith) refl, stays k h 2 _ ne (omega arith) refl) in
-          let up : Up words now = record {
-            rounds = λ k. rw is (law.layout.stays words r g i n k);
+          let up : Up lay words now = record {
+            rounds = λ k. rw is (omega (arith, law.layout.stays words r g i n k));
             moves = λ k h. let off = stay k h in let here = round k h in grind arith;
           } in
           let counts : (k h : ℕ)
@@ -338,26 +305,20 @@ module _ (lay : Layout) where
                   (λ l. omega (arith, mades k h l, only_le)) (counts k h).2;
               mades = mades;
               fits = each-set _ s.views seat.id w
-                  (λ j u ne there. let theirs = o.1.fits j u there in record {
-                    holding = hand_moves words now u.inner.hand (λ k h ph e. halves k h (λ same.
-                        let kr : k ≡ r = sym
-                        (law.sees key words s.views j k u o.0 there (theirs.inside k h ph e))
-                        ∙ round k h same in
-                        let it : in_hand r g u.inner.hand ≡ 1 =
-                        rw (e, kr, (same_gate k h same)) (pair_same r g) in
-                        let two = terms_le (λ (x : SeatView J). in_hand r g x.inner.hand) s.views
-                        seat.id j v u ne at_id there in omega (arith, o.1.hands r g, own)))
-                        theirs.holding;
-                    inside = theirs.inside;
-                    knows = λ k h more. omega (arith, theirs.knows k h more, (up.moves k h).0);
-                    looks = looks_last words now u.inner.looks up theirs.looks;
-                    spent = theirs.spent;
-                  })
+                  (λ j u ne there. let theirs = o.1.fits j u there in
+                  fits_last lay gates right job words now u up (λ k h ph e. halves k h (λ same.
+                  let kr : k ≡ r = sym
+                  (law.sees key words s.views j k u o.0 there (theirs.inside k h ph e))
+                  ∙ round k h same in
+                  let it : in_hand r g u.inner.hand ≡ 1 =
+                  rw (e, kr, (same_gate k h same)) (pair_same r g) in
+                  let two = terms_le (λ (x : SeatView J). in_hand r g x.inner.hand) s.views
+                  seat.id j v u ne at_id there in omega (arith, o.1.hands r g, own))) theirs)
                   (record {
                     holding = holding;
                     inside = λ k h phase has. p.inside ∙ ap Inside (sym (in_it k h phase has));
                     knows = knows (λ k h more. omega (arith, f.knows k h more, (up.moves k h).0));
-                    looks = looks_last words now v.inner.looks up f.looks;
+                    looks = looks_last lay words now v.inner.looks up f.looks;
                     spent = λ none_left. absurd (real none_left);
                   });
             },
