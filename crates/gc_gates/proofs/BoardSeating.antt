@@ -61,7 +61,7 @@ module _ {J : Type 0} (gates : J → ℕ) (right : J → ℕ → ℕ → ℕ →
       → Splits Holds id v (one_less v) (dealt_seat v)
   deals id v several = splits id v (one_less v) (dealt_seat v) (omega arith) refl (λ r e. cc)
       (λ r g. omega arith) (λ r g. omega arith)
-      (λ words f. (search (rules, f), blank one_round gates right key.about words _ refl refl refl refl))
+      (λ words f. (search (rules, f), blank one_round gates right key.about words _ refl))
 
   pub notes : (id : ℕ) (v : View (GateView J)) → Splits Holds id v v (note_of v)
   notes id v = splits id v v (note_of v) (omega arith) refl (λ r e. absurd (cc))

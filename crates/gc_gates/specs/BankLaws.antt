@@ -83,21 +83,20 @@ module _ (lay : Layout) where
     }
 
     -- a view that says nothing of the words
-    pub blank : (words : List ℕ) (v : SeatView J) → v.inner.hand ≡ Empty → v.inner.made ≡ []
-        → v.inner.known ≡ [] → v.inner.looks ≡ [] → Fits words v
-    blank words v hand made known looks = record {
+    pub blank : (words : List ℕ) (v : SeatView J) → v.inner ≡ fresh_view v.inner → Fits words v
+    blank words v new = let hand : v.inner.hand ≡ Empty = ap (λ x. x.hand) new in record {
       holding = rw hand tt;
       inside = λ k h phase has. absurd (cc);
-      knows = λ k h more. absurd (omega (arith, ap (pairs k h) known));
-      looks = λ k h n more. absurd (omega (arith, ap (looked k h n) looks));
-      spent = λ _. (hand, made);
+      knows = λ k h more. absurd (omega (arith, ap (λ x. pairs k h x.known) new));
+      looks = λ k h n more. absurd (omega (arith, ap (λ x. looked k h n x.looks) new));
+      spent = λ _. (hand, ap (λ x. x.made) new);
     }
 
     -- the words at the opening, with one view
     pub opened : (words : List ℕ) (v : SeatView J) → length words ≡ lay.size (gates job)
-        → ((k h : ℕ) → state_of lay words k h ≡ 0) → v.inner ≡ first_view job
+        → ((k h : ℕ) → state_of lay words k h ≡ 0) → v.inner ≡ fresh_view v.inner
         → Rule words (v ∷ [])
-    opened words v long free first = record {
+    opened words v long free new = record {
       long = long;
       cells = λ k h. record {
         state = omega (arith, free k h);
@@ -105,11 +104,10 @@ module _ (lay : Layout) where
         low = λ e. absurd (omega (arith, free k h));
         high = λ e. absurd (omega (arith, free k h));
       };
-      hands = λ k h. rw first (omega (arith, free k h, only_other));
-      once = λ k h. rw first (omega arith);
-      mades = λ k h l. rw first (omega (arith, free k h, only_other));
-      fits = each-one _ v (blank words v (ap (λ x. x.hand) first) (ap (λ x. x.made) first)
-          (ap (λ x. x.known) first) (ap (λ x. x.looks) first));
+      hands = λ k h. rw new (omega (arith, free k h, only_other));
+      once = λ k h. rw new (omega arith);
+      mades = λ k h l. rw new (omega (arith, free k h, only_other));
+      fits = each-one _ v (blank words v new);
     }
 
     -- a view is cut in two
@@ -168,7 +166,7 @@ module _ (lay : Layout) where
                 spent = λ z. let a = f.spent (omega arith) in let b = theirs.spent (omega arith) in
                     (a.0, λ i. a.1 i ++ b.1 i);
               })
-              (blank words none_left refl refl refl refl);
+              (blank words none_left refl);
         }
 
 module _ {J : Type 0} (gates : J → ℕ) (right : J → ℕ → ℕ → ℕ → ℕ → Type 0) where
@@ -199,23 +197,20 @@ module _ {J : Type 0} (gates : J → ℕ) (right : J → ℕ → ℕ → ℕ →
       let totals = λ (m : SeatView J → ℕ). total-set m views id v w at_id in
       let makes = λ (r g : ℕ). totals (λ u. pairs r g u.inner.made) in record {
         long = length-set words b n ∙ o.long;
-        cells = λ r g. let c = o.cells r g in let same = state r g in record {
-          state = rw same c.state;
-          round = omega (arith, c.round, ap round_of same, up.rounds r);
-          low = λ e. rw (halves r g).0 (c.low (sym same ∙ e));
-          high = λ e. rw (halves r g).1 (c.high (sym same ∙ e));
+        cells = λ r g. let c = o.cells r g in record {
+          state = rw (state r g) c.state;
+          round = rw (state r g) (omega (arith, c.round, up.rounds r));
+          low = rw (state r g, (halves r g).0) c.low;
+          high = rw (state r g, (halves r g).1) c.high;
         };
         hands = λ r g. rw (state r g)
             (omega (arith, totals (λ u. in_hand r g u.inner.hand), o.hands r g));
         once = λ r g. omega (arith, makes r g, o.once r g);
-        mades = λ r g l. rw (state r g)
-            (omega (arith, makes r g, o.mades r g (omega (arith, state r g))));
+        mades = λ r g. rw (state r g) (λ l. omega (arith, makes r g, o.mades r g l));
         fits = each-set _ views id w (λ j u ne there. lasts u (o.fits j u there)) (record {
           holding = mine.holding;
-          inside = λ r g phase has. elim idle [
-            | inl same ↦ same ∙ mine.inside r g phase has
-            | inr empty ↦ absurd (cc)
-          ];
+          inside = λ r g phase has. let was = mine.inside r g phase has in
+              ⊎_elim (λ same. same ∙ was) (λ empty. absurd (cc)) idle;
           knows = mine.knows;
           looks = mine.looks;
           spent = mine.spent;
@@ -234,7 +229,7 @@ module _ {J : Type 0} (gates : J → ℕ) (right : J → ℕ → ℕ → ℕ →
         looks = f.looks;
         spent = λ none_left. absurd (omega arith);
       })
-      (blank two_banks gates right job words _ refl refl refl refl)
+      (blank two_banks gates right job words _ refl)
 
   pub joins : Joins (Sound two_banks gates right)
       (λ (v : GateView J). v.hand ≡ Empty) joined no_view
