@@ -16,13 +16,13 @@ use Rattle.gc_workers.specs.declared.states.TheConstants.{DONE, FREE, IN_HAND}
 use Rattle.gc_rounds.specs.Words.{round_of, stamp}
 use Rattle.gc_rounds.specs.declared.view.Key.{Key}
 use Rattle.gc_gates.specs.Layout.{Layout}
-use Rattle.gc_gates.specs.Frame.{IsBeside, Stepped, FrameLaw}
+use Rattle.gc_gates.specs.Frame.{IsBeside, FrameLaw}
 use Rattle.gc_rounds.specs.declared.view.Position.TheVariants.{Inside}
 use Rattle.gc_rounds.specs.declared.view.Step.{Step}
 use Rattle.gc_rounds.specs.declared.view.Step.TheVariants.{Load, Store, Claim}
 use Rattle.gc_workers.proofs.Sums.{total-append, total-set, term_le, terms_le, sole, each-set, only_same, only_other, only_le, only_is}
 use Rattle.gc_gates.specs.Pairs.{is_pair, pairs, looked}
-use Rattle.gc_gates.specs.Gates.{in_hand, low_of, high_of}
+use Rattle.gc_gates.specs.Gates.{in_hand, low_of, high_of, IsOnce}
 use Rattle.gc_gates.specs.Gates as board
 use Rattle.gc_gates.specs.Steps.{Finds, changed, learnt, after_state, after_half, after_stored, after_done, state_loaded, claimed, half_stored, done_stored, once_learnt}
 use Rattle.gc_gates.specs.BankLaws.{SeatView, SameHalves, Lasting, Up, looks_last, fits_last}
@@ -42,13 +42,6 @@ module _ (lay : Layout) where
   -- what a list of known gates says of the words
   abbrev Known : List ℕ → List (ℕ × ℕ) → Type 0
   Known words known = (k h : ℕ) → 0 < pairs k h known → stamp k DONE ≤ state_of words k h
-
-  -- a step beside the banks
-  beside : {J : Type 0} (v : SeatView J) (hand : Hand) (made known : List (ℕ × ℕ))
-      (looks : List (ℕ × ℕ × ℕ)) (e : Step) → IsBeside e
-      → Stepped v (changed v hand made known looks e) e
-  beside v hand made known looks e idle =
-      record { beside = idle; position = refl; all = refl; seats = refl; steps = refl }
 
   -- one more gate is known that is done
   knows_too : (words : List ℕ) (known : List (ℕ × ℕ)) (r g : ℕ) → stamp r DONE ≤ state_of words r g
@@ -105,8 +98,8 @@ module _ (lay : Layout) where
         let f = o.1.fits id v at_id in let w = changed v v.inner.hand v.inner.made known looks e in
         let totals = λ (m : SeatView J → ℕ). total-set m views id v w at_id in
         let makes = λ (k h : ℕ). totals (λ u. pairs k h u.inner.made) in rw (set-get_or words i 0) (
-          law.loads key words views id v w e o.0 at_id (beside v v.inner.hand v.inner.made known
-              looks e idle),
+          law.loads key words views id v w e o.0 at_id
+              (record { beside = idle; position = refl; all = refl; seats = refl; steps = refl }),
           record {
             long = o.1.long;
             cells = o.1.cells;
@@ -139,19 +132,17 @@ module _ (lay : Layout) where
 
       owed : {i : ℕ} {A : Type 0} → i < at r g + 3 → A
           → (seat.table_id ≡ table) × (i < table.words) × A
-      owed below allowed = (
-        p.place.table_id,
-        omega (arith, there, p.place.words),
-        allowed,
-      )
+      owed below allowed = (p.place.table_id, omega (arith, there, p.place.words), allowed)
 
       same_gate : (k h : ℕ) → at k h ≡ at r g → h ≡ g
       same_gate k h e = (law.layout.apart r g k h 0 0 (omega arith) (omega arith)
           (omega (arith, e))).1
 
       -- the word says which gate it is, and the seat in which round
-      here : (k h : ℕ) → v.position ≡ Inside k → at r g ≡ at k h → (k ≡ r) × (h ≡ g)
-      here k h position e = (cc, same_gate k h (sym e))
+      here : (P : ℕ → ℕ → Type 0) → P r g → (k h : ℕ) → v.position ≡ Inside k → at r g ≡ at k h
+          → P k h
+      here P holds_here k h position e =
+          let same : k ≡ r = cc in rw (same, same_gate k h (sym e)) holds_here
 
       now_is : (s : State ℕ (SeatView J)) → Holds s → get_elem? s.views seat.id ≡ some v
           → lay.now s.words r ≡ r
@@ -172,21 +163,14 @@ module _ (lay : Layout) where
       pub loads_state : Owes (at r g) (λ n. n)
           (state_loaded lay (step table.slots (at r g) 0 0 none) seat.me)
       loads_state = owed (omega arith) (λ s h wide at_id small. let o = law.parts key s h in
-          let found : ℕ = state_of s.words r g in let f = o.1.fits seat.id v at_id in (
-            after_state lay v r g found,
-            keeps,
-            tt,
-            kept _ (loaded s.words s.views (at r g) seat.id v (learnt v.inner.known r g found)
-                ((r, g, found) ∷ v.inner.looks) (Load (at r g) found)
-                ((λ b. refl), (λ k. refl), refl) o at_id (learns s.words v.inner.known r g f.knows)
-                (λ k h n more. let old = f.looks k h n in let it = look_is k h n (r, g, found) in
-                let here = now_is s o at_id in grind arith)),
-            (
-              refl,
-              λ k h position e. let it = here k h position e in
-                  rw (it.0, it.1) (finds s o at_id, refl),
-            ),
-          ))
+          let found : ℕ = state_of s.words r g in let f = o.1.fits seat.id v at_id in
+          let rule = loaded s.words s.views (at r g) seat.id v (learnt v.inner.known r g found)
+          ((r, g, found) ∷ v.inner.looks) (Load (at r g) found) ((λ b. refl), (λ k. refl), refl)
+          o at_id (learns s.words v.inner.known r g f.knows)
+          (λ k h n more. let old = f.looks k h n in let it = look_is k h n (r, g, found) in
+          let here = now_is s o at_id in grind arith) in
+          let says = here _ (finds s o at_id, refl) in
+          (after_state lay v r g found, keeps, tt, kept _ rule, (refl, says)))
 
       -- a load of half i of the gate, where this is right if the gate is done in the round
       pub loads_half : (i : ℕ) → i < 2 → ((s : State ℕ (SeatView J)) → Holds s
@@ -198,22 +182,18 @@ module _ (lay : Layout) where
           → 0 < pairs k h v.inner.known → (j : J) → v.inner.job ≡ Some j → right j k h i n))
       loads_half i two is = owed (omega arith) (λ s h wide at_id small. let o = law.parts key s h in
           let word : ℕ = at r g + suc i in let found : ℕ = get_or s.words word 0 in
-          let f = o.1.fits seat.id v at_id in (
+          let f = o.1.fits seat.id v at_id in
+          let rule = loaded s.words s.views word seat.id v v.inner.known v.inner.looks
+          (Load word found) ((λ b. refl), (λ k. refl), refl) o at_id f.knows f.looks in
+          let Right = λ (k h : ℕ). 0 < pairs k h v.inner.known → (j : J) → v.inner.job ≡ Some j
+          → right j k h i found in let known_right : Right r g = λ known j its.
+          let one : Some job ≡ Some j = sym p.place.about ∙ its in
+          let ours : job ≡ j = cc in rw (← ours) (is s o ((finds s o at_id).known known)) in (
             after_half v word found,
             keeps,
             tt,
-            kept _ (loaded s.words s.views word seat.id v v.inner.known v.inner.looks
-                (Load word found) ((λ b. refl), (λ k. refl), refl) o at_id f.knows f.looks),
-            (
-              refl,
-              refl,
-              λ k h position e known j its.
-                  let it = here k h position (omega (arith, e)) in
-                  let one : Some job ≡ Some j = sym p.place.about ∙ its in
-                  let ours : job ≡ j = cc in
-                  rw (it.0, it.1, ← ours)
-                  (is s o ((finds s o at_id).known (rw (it.0, it.1) at known))),
-            ),
+            kept _ rule,
+            (refl, refl, λ k h position e. here Right known_right k h position (omega (arith, e))),
           ))
 
       -- A write of n to word i of the gate, which takes its state to m of the round or leaves it
@@ -280,7 +260,7 @@ module _ (lay : Layout) where
           let was = o.1.mades k h (omega (arith, (up.moves k h).0)) in
           omega (arith, makes k h, (counts k h).1 l) in (
             rw is (law.writes key words s.views seat.id r g i n v w e o.0 at_id
-                (beside v hand made known v.inner.looks e idle)),
+                (record { beside = idle; position = refl; all = refl; seats = refl; steps = refl })),
             record {
               long = length-set words word n ∙ o.1.long;
               cells = λ k h. dite (ℕ_discrete (at k h) (at r g))
@@ -327,13 +307,14 @@ module _ (lay : Layout) where
       -- what the seat has in hand is in hand by its state word
       held : (s : State ℕ (SeatView J)) (phase : ℕ) → Holds s → get_elem? s.views seat.id ≡ some v
           → v.inner.hand ≡ Has r g phase
-          → (in_hand r g v.inner.hand ≡ 1) × (state_of s.words r g ≡ stamp r IN_HAND)
+          → (in_hand r g v.inner.hand ≡ only (stamp r IN_HAND) (state_of s.words r g))
+          × (state_of s.words r g ≡ stamp r IN_HAND)
       held s phase o at_id has =
           let le = term_le (λ (x : SeatView J). in_hand r g x.inner.hand) s.views seat.id v at_id in
-          let own = ap (in_hand r g) has ∙ pair_same r g in (
-            own,
-            sym (only_is (stamp r IN_HAND) (state_of s.words r g) (omega (arith, o.1.hands r g))),
-          )
+          let own = ap (in_hand r g) has ∙ pair_same r g in
+          let state = only_is (stamp r IN_HAND) (state_of s.words r g)
+          (omega (arith, o.1.hands r g)) in
+          (omega (arith, own, only_same _ _ state), sym state)
 
       pub claims : (old : ℕ) → v.inner.hand ≡ Empty → 0 < v.seats → 0 < looked r g old v.inner.looks
           → old ≤ stamp r FREE → Owes (at r g) (λ n. either (eqb n old) (stamp r IN_HAND) n)
@@ -341,45 +322,30 @@ module _ (lay : Layout) where
       claims old empty seated look free =
           owed (omega arith) (λ s h wide at_id small. let o = law.parts key s h in
           let f = o.1.fits seat.id v at_id in let found : ℕ = state_of s.words r g in
-          dite (ℕ_discrete found old)
-          (λ hit. rw (eq-eqb found old hit) (
-            changed v (Has r g 0) v.inner.made (learnt v.inner.known r g found) v.inner.looks
-                (Claim (at r g) found),
-            keeps,
-            tt,
-            kept _ (rw (ne_eqb found (stamp r DONE) (λ two. omega arith))
-                (written s 0 (at r g) (stamp r IN_HAND) 1 (Has r g 0) v.inner.made v.inner.known
-                (Claim (at r g) found) ((λ b. refl), (λ k. refl), refl) o at_id (omega arith)
-                (omega arith) (omega arith) (omega arith) (omega arith) (omega arith)
-                (get_or-set_same s.words (at r g) (stamp r IN_HAND) 0
-                (omega (arith, o.1.long, there)))
-                (λ two. absurd (omega arith)) (omega (arith, ap (in_hand r g) empty, only_other))
-                (omega (arith, pair_same r g, only_same)) (omega (arith, only_other))
-                (λ k h apart. (apart ∙ sym (ap (in_hand k h) empty), refl))
-                ((λ l. absurd (omega arith)), (λ l. absurd (omega arith)))
-                (λ k h phase has. cc) (λ known. known) (λ none_left. omega arith))),
-            (
-              refl,
-              λ k h position e. let it = here k h position e in
-                  rw (it.0, it.1) (finds s o at_id, inl hit, refl),
-            ),
-          ))
+          let after = λ (hand : Hand). changed v hand v.inner.made (learnt v.inner.known r g found)
+          v.inner.looks (Claim (at r g) found) in dite (ℕ_discrete found old)
+          (λ hit. let rule = written s 0 (at r g) (stamp r IN_HAND) 1 (Has r g 0) v.inner.made v.inner.known
+          (Claim (at r g) found) ((λ b. refl), (λ k. refl), refl) o at_id (omega arith)
+          (omega arith) (omega arith) (omega arith) (omega arith) (omega arith)
+          (get_or-set_same s.words (at r g) (stamp r IN_HAND) 0
+          (omega (arith, o.1.long, there)))
+          (λ two. absurd (omega arith)) (omega (arith, ap (in_hand r g) empty, only_other))
+          (omega (arith, pair_same r g, only_same)) (omega (arith, only_other))
+          (λ k h apart. (apart ∙ sym (ap (in_hand k h) empty), refl))
+          ((λ l. absurd (omega arith)), (λ l. absurd (omega arith)))
+          (λ k h phase has. cc) (λ known. known) (λ none_left. omega arith) in
+          let undone : Rule (set s.words (at r g) (stamp r IN_HAND))
+          (set s.views seat.id (after (Has r g 0))) =
+          rw (ne_eqb found (stamp r DONE) (λ two. omega arith)) rule in
+          rw (eq-eqb found old hit)
+          (after (Has r g 0), keeps, tt, kept _ undone, (refl, here _ (finds s o at_id, inl hit, refl))))
           (λ ne. let later : stamp r FREE < found = omega (arith, f.looks r g old look) in
-          rw (ne_eqb found old ne) (
-            changed v v.inner.hand v.inner.made (learnt v.inner.known r g found) v.inner.looks
-                (Claim (at r g) found),
-            keeps,
-            tt,
-            kept _ (loaded s.words s.views (at r g) seat.id v
-                (learnt v.inner.known r g found) v.inner.looks
-                (Claim (at r g) found) ((λ b. refl), (λ k. refl), refl) o at_id
-                (learns s.words v.inner.known r g f.knows) f.looks),
-            (
-              refl,
-              λ k h position e. let it = here k h position e in
-                  rw (it.0, it.1) (finds s o at_id, inr later, refl),
-            ),
-          )))
+          let rule = loaded s.words s.views (at r g) seat.id v
+          (learnt v.inner.known r g found) v.inner.looks
+          (Claim (at r g) found) ((λ b. refl), (λ k. refl), refl) o at_id
+          (learns s.words v.inner.known r g f.knows) f.looks in
+          rw (ne_eqb found old ne)
+          (after v.inner.hand, keeps, tt, kept _ rule, (refl, here _ (finds s o at_id, inr later, refl)))))
 
       half_right : (words : List ℕ) (i n : ℕ) → i < 2 → at r g + 2 < length words
           → right job r g i n → board.IsHandRight lay gates right job words (Has r g i)
@@ -401,22 +367,17 @@ module _ (lay : Layout) where
       stores_half i n two has is =
           owed (omega arith) (λ s h wide at_id small. let o = law.parts key s h in
           let f = o.1.fits seat.id v at_id in let word : ℕ = at r g + suc i in
-          let one = held s i o at_id has in let state = one.1 in (
-            after_stored v r g (i + 1) word n,
-            keeps,
-            tt,
-            kept _ (written s (suc i) word n 1 (Has r g (i + 1)) v.inner.made v.inner.known
-                (Store word n) ((λ b. refl), (λ k. refl), refl) o at_id (omega arith) refl
-                (omega arith) (omega arith) (omega arith) (omega arith)
-                (get_or-set_other s.words word (at r g) n 0 (λ e. omega arith) ∙ state)
-                (λ m. absurd (omega arith)) (one.0 ∙ sym (only_same _ _ (sym state)))
-                (omega (arith, pair_same r g, only_same)) (omega (arith, only_other))
-                (λ k h apart. (sym (ap (in_hand k h) has), refl))
-                (half_right s.words i n two (omega (arith, o.1.long, there)) is
-                (rw has at f.holding)) (λ k h ph e. cc) (λ known. known)
-                (λ none_left. let gone = (f.spent none_left).0 in absurd (cc))),
-            (refl, λ k h ph e. cc),
-          ))
+          let one = held s i o at_id has in let state = one.1 in let rule = written s (suc i) word n 1 (Has r g (i + 1)) v.inner.made v.inner.known
+          (Store word n) ((λ b. refl), (λ k. refl), refl) o at_id (omega arith) refl
+          (omega arith) (omega arith) (omega arith) (omega arith)
+          (get_or-set_other s.words word (at r g) n 0 (λ e. omega arith) ∙ state)
+          (λ m. absurd (omega arith)) one.0
+          (omega (arith, pair_same r g, only_same)) (omega (arith, only_other))
+          (λ k h apart. (sym (ap (in_hand k h) has), refl))
+          (half_right s.words i n two (omega (arith, o.1.long, there)) is
+          (rw has at f.holding)) (λ k h ph e. cc) (λ known. known)
+          (λ none_left. let gone = (f.spent none_left).0 in absurd (cc)) in
+          (after_stored v r g (i + 1) word n, keeps, tt, kept _ rule, (refl, λ k h ph e. cc)))
 
       pub stores_done : v.inner.hand ≡ Has r g 2 → Owes (at r g) (λ _. stamp r DONE)
           (λ _. done_stored lay (step table.slots (at r g) (stamp r DONE) 0 none) seat.me
@@ -430,37 +391,27 @@ module _ (lay : Layout) where
           let half : (j : ℕ) → get_or now (at r g + suc j) 0 ≡ get_or s.words (at r g + suc j) 0 =
           λ j. get_or-set_other s.words (at r g) (at r g + suc j) (stamp r DONE) 0
           (λ e. omega arith) in
-          let adds = λ (k h : ℕ). total-append (is_pair k h) v.inner.made ((r, g) ∷ []) in (
-            after_done lay v r g,
-            keeps,
-            tt,
-            kept _ (written s 0 (at r g) (stamp r DONE) 2 Empty (v.inner.made ++ (r, g) ∷ [])
-                ((r, g) ∷ v.inner.known) (Store (at r g) (stamp r DONE))
-                ((λ b. refl), (λ k. refl), refl) o at_id (omega arith)
-                (omega arith) (omega arith) (omega arith) (omega arith) (omega arith) two
-                (λ _. (rw (half 0) (halves.0 (omega arith)), rw (half 1) (halves.1 (omega arith))))
-                (one.0 ∙ sym (only_same _ _ (sym state)))
-                (omega (arith, only_other)) (omega (arith, adds r g, pair_same r g, only_same))
-                (λ k h apart. (sym (ap (in_hand k h) has ∙ apart), omega (arith, adds k h)))
-                tt (λ k h phase e. absurd (cc)) (knows_too now v.inner.known r g (omega arith))
-                (λ none_left. let gone = (f.spent none_left).0 in absurd (cc))),
-            (refl, λ k h ph e. cc),
-          ))
+          let adds = λ (k h : ℕ). total-append (is_pair k h) v.inner.made ((r, g) ∷ []) in
+          let rule = written s 0 (at r g) (stamp r DONE) 2 Empty (v.inner.made ++ (r, g) ∷ [])
+          ((r, g) ∷ v.inner.known) (Store (at r g) (stamp r DONE))
+          ((λ b. refl), (λ k. refl), refl) o at_id (omega arith)
+          (omega arith) (omega arith) (omega arith) (omega arith) (omega arith) two
+          (λ _. (rw (half 0) (halves.0 (omega arith)), rw (half 1) (halves.1 (omega arith))))
+          one.0
+          (omega (arith, only_other)) (omega (arith, adds r g, pair_same r g, only_same))
+          (λ k h apart. (sym (ap (in_hand k h) has ∙ apart), omega (arith, adds k h)))
+          tt (λ k h phase e. absurd (cc)) (knows_too now v.inner.known r g (omega arith))
+          (λ none_left. let gone = (f.spent none_left).0 in absurd (cc)) in
+          (after_done lay v r g, keeps, tt, kept _ rule, (refl, λ k h ph e. cc)))
 
     -- a seat that stands for all has made each gate at most once in a round
     pub learns_once : (slots id : ℕ) (me : Me ℕ (SeatView J)) → me.0.all ≡ key.seats
         → Allows (holds key) slots id me 0 (λ n. n) (once_learnt (step slots 0 0 0 none) me)
     learns_once slots id me are s h wide at_id small = let o = law.parts key s h in
-        let f = o.1.fits id me.0 at_id in let found : ℕ = get_or s.words 0 0 in (
-          after_half me.0 0 found,
-          keeps,
-          tt,
-          kept _ (loaded s.words s.views 0 id me.0 me.0.inner.known me.0.inner.looks (Load 0 found)
-              ((λ b. refl), (λ k. refl), refl) o at_id f.knows f.looks),
-          (
-            refl,
-            refl,
-            λ whole r g. let t = sees_all s.words s.views id me.0 o at_id are whole r g in
-                omega (arith, o.1.once r g),
-          ),
-        )
+        let f = o.1.fits id me.0 at_id in let found : ℕ = get_or s.words 0 0 in
+        let rule = loaded s.words s.views 0 id me.0 me.0.inner.known me.0.inner.looks (Load 0 found)
+        ((λ b. refl), (λ k. refl), refl) o at_id f.knows f.looks in
+        let alone = sees_all s.words s.views id me.0 o at_id are in
+        let says : me.0.seats ≡ me.0.all → IsOnce me.0.inner.made =
+        λ whole r g. omega (arith, (alone whole r g).1, o.1.once r g) in
+        (after_half me.0 0 found, keeps, tt, kept _ rule, (refl, refl, says))

@@ -67,8 +67,8 @@ module _ (lay : Layout) where
         → ((k h phase : ℕ) → hand ≡ Has k h phase → SameHalves before now k h)
         → IsHandRight lay gates right job before hand → IsHandRight lay gates right job now hand
     hand_lasts before now Empty same f = tt
-    hand_lasts before now (Has k h phase) same f = let e = same k h phase refl in
-        (λ l. rw e.0 (f.0 l), λ l. rw e.1 (f.1 l))
+    hand_lasts before now (Has k h phase) same f =
+        let e = same k h phase refl in rw (e.0, e.1) f
 
     -- what a view says lasts
     pub fits_last : (before now : List ℕ) (v : SeatView J) → Up before now
@@ -243,7 +243,7 @@ module _ {J : Type 0} (gates : J → ℕ) (right : J → ℕ → ℕ → ℕ →
   two_banks_law = record {
     layout = record {
       apart = λ r g k h i j a b e. (omega arith, omega arith, omega arith);
-      shared = λ words r g k h e. ap (λ b. round_of (get_or words b 0)) (same_bank r g k h e);
+      shared = λ words r g k h e. ap (λ b. round_of (get_or words b 0)) (omega arith);
       within = λ n r g below. omega arith;
       stays = λ words r g i n k. ap round_of
           (get_or-set_other words (two_banks.at r g + i) (bank_of k) n 0
@@ -262,6 +262,3 @@ module _ {J : Type 0} (gates : J → ℕ) (right : J → ℕ → ℕ → ℕ →
         (λ b l. get_or-set_other words (two_banks.at r g + i) b n 0 (λ e. omega arith))
         t.position t.all t.seats t.steps t.beside.0 t.beside.1 t.beside.2;
   }
-    where
-      same_bank : (r g k h : ℕ) → two_banks.at k h ≡ two_banks.at r g → bank_of k ≡ bank_of r
-      same_bank r g k h e = omega arith
