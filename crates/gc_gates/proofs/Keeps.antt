@@ -203,8 +203,7 @@ module _ (lay : Layout) where
           → get_elem? s.views seat.id ≡ some v → i < 3 → word ≡ at r g + i → 0 < m → m < 3
           → state_of s.words r g ≤ stamp r m → state_of s.words r g < stamp r DONE
           → state_of (set s.words word n) r g ≡ stamp r m
-          → (m ≡ 2 → right job r g 0 (low_of lay (set s.words word n) r g)
-          × right job r g 1 (high_of lay (set s.words word n) r g))
+          → (m ≡ 2 → board.IsHandRight lay gates right job (set s.words word n) (Has r g 2))
           → in_hand r g v.inner.hand ≡ only (stamp r IN_HAND) (state_of s.words r g)
           → in_hand r g hand ≡ only (stamp r IN_HAND) (stamp r m)
           → pairs r g made ≡ pairs r g v.inner.made + only (stamp r DONE) (stamp r m)
@@ -244,14 +243,11 @@ module _ (lay : Layout) where
           λ k h. dite (dec_le 1 (is_pair k h (r, g)))
           (λ y. let q = pair_is k h (r, g) y in rw (q.0, q.1, set_to)
           (omega (arith, own), (λ l. omega (arith, only_other)), inr (omega arith)))
-          (λ no. let apart : is_pair k h (r, g) ≡ 0 = omega arith in
-          let else = elsewhere k h apart in dite (ℕ_discrete (at k h) (at r g))
+          (λ no. let else = elsewhere k h (omega arith) in dite (ℕ_discrete (at k h) (at r g))
           (λ same. let gate = same_gate k h same in let here = round k h same in
           let one = one_round words s.views k h o in
-          let ne : k ≢ r = λ kr. omega (arith, pair_same r g, rw (kr, gate) at apart) in
           rw (same, set_to) (grind (arith, nat_tests), (λ l. grind (arith, nat_tests)), inl else.1))
-          (λ ne. rw (stay k h ne)
-          (omega (arith, else.0), (λ l. omega (arith, else.1)), inl else.1))) in
+          (λ ne. rw (stay k h ne) (omega (arith, else.0), (λ l. omega (arith, else.1)), inl else.1))) in
           let totals = λ (m : SeatView J → ℕ). total-set m s.views seat.id v w at_id in
           let makes = λ (k h : ℕ). totals (λ u. pairs k h u.inner.made) in
           let mades : (k h : ℕ) → state_of now k h < stamp (k + 1) FREE
@@ -268,9 +264,9 @@ module _ (lay : Layout) where
                     state = rw (same, set_to) (omega arith);
                     round = rw (same, set_to) (omega (arith, up.rounds k, round k h same));
                     low = λ d. let two = rw (same, set_to) at d in let kr : k ≡ r = omega arith in
-                        rw (kr, gate) (right_halves (omega arith)).0;
+                        rw (kr, gate) ((right_halves (omega arith)).0 (omega arith));
                     high = λ d. let two = rw (same, set_to) at d in let kr : k ≡ r = omega arith in
-                        rw (kr, gate) (right_halves (omega arith)).1;
+                        rw (kr, gate) ((right_halves (omega arith)).1 (omega arith));
                   })
                   (λ ne. let c = o.1.cells k h in let same = stay k h ne in
                   let both = halves k h ne in record {
@@ -396,7 +392,7 @@ module _ (lay : Layout) where
           ((r, g) ∷ v.inner.known) (Store (at r g) (stamp r DONE))
           ((λ b. refl), (λ k. refl), refl) o at_id (omega arith)
           (omega arith) (omega arith) (omega arith) (omega arith) (omega arith) two
-          (λ _. (rw (half 0) (halves.0 (omega arith)), rw (half 1) (halves.1 (omega arith))))
+          (λ _. rw (half 0, half 1) halves)
           one.0
           (omega (arith, only_other)) (omega (arith, adds r g, pair_same r g, only_same))
           (λ k h apart. (sym (ap (in_hand k h) has ∙ apart), omega (arith, adds k h)))
