@@ -13,7 +13,7 @@ use Rattle.atomic_table.specs.Seated.{TableId}
 use Rattle.atomic_table.specs.declared.shared.Seat.{Seat}
 use Rattle.gc_workers.specs.Counts.{total, only}
 use Rattle.gc_workers.specs.declared.states.TheConstants.{DONE, FREE, IN_HAND}
-use Rattle.gc_rounds.specs.Words.{round_of, stamp}
+use Rattle.gc_rounds.specs.Words.{stamp}
 use Rattle.gc_rounds.specs.declared.view.Key.{Key}
 use Rattle.gc_gates.specs.Layout.{Layout}
 use Rattle.gc_gates.specs.Frame.{IsBeside, FrameLaw}
@@ -165,7 +165,7 @@ module _ (lay : Layout) where
       loads_state = owed (omega arith) (λ s h wide at_id small. let o = law.parts key s h in
           let found : ℕ = state_of s.words r g in let f = o.1.fits seat.id v at_id in
           let rule = loaded s.words s.views (at r g) seat.id v (learnt v.inner.known r g found)
-          ((r, g, found) ∷ v.inner.looks) (Load (at r g) found) ((λ b. refl), (λ k. refl), refl)
+          ((r, g, found) ∷ v.inner.looks) (Load (at r g) found) (λ b. refl, λ k. refl, refl)
           o at_id (learns s.words v.inner.known r g f.knows)
           (λ k h n more. let old = f.looks k h n in let it = look_is k h n (r, g, found) in
           let here = now_is s o at_id in grind arith) in
@@ -184,7 +184,7 @@ module _ (lay : Layout) where
           let word : ℕ = at r g + suc i in let found : ℕ = get_or s.words word 0 in
           let f = o.1.fits seat.id v at_id in
           let rule = loaded s.words s.views word seat.id v v.inner.known v.inner.looks
-          (Load word found) ((λ b. refl), (λ k. refl), refl) o at_id f.knows f.looks in
+          (Load word found) (λ b. refl, λ k. refl, refl) o at_id f.knows f.looks in
           let Right = λ (k h : ℕ). 0 < pairs k h v.inner.known → (j : J) → v.inner.job ≡ Some j
           → right j k h i found in let known_right : Right r g = λ known j its.
           let one : Some job ≡ Some j = sym p.place.about ∙ its in
@@ -268,12 +268,11 @@ module _ (lay : Layout) where
                     high = λ d. let two = rw (same, set_to) at d in let kr : k ≡ r = omega arith in
                         rw (kr, gate) ((right_halves (omega arith)).1 (omega arith));
                   })
-                  (λ ne. let c = o.1.cells k h in let same = stay k h ne in
-                  let both = halves k h ne in record {
-                    state = omega (arith, c.state);
-                    round = omega (arith, c.round, up.rounds k, ap round_of same);
-                    low = λ e. rw both.0 (c.low (sym same ∙ e));
-                    high = λ e. rw both.1 (c.high (sym same ∙ e));
+                  (λ ne. let c = o.1.cells k h in let same = stay k h ne in record {
+                    state = rw same c.state;
+                    round = rw same (omega (arith, c.round, up.rounds k));
+                    low = rw (same, (halves k h ne).0) c.low;
+                    high = rw (same, (halves k h ne).1) c.high;
                   });
               hands = λ k h. omega
                   (arith, totals (λ u. in_hand k h u.inner.hand), o.1.hands k h, (counts k h).0);
@@ -283,11 +282,10 @@ module _ (lay : Layout) where
               fits = each-set _ s.views seat.id w
                   (λ j u ne there. let theirs = o.1.fits j u there in
                   fits_last lay gates right job words now u up (λ k h ph e. halves k h (λ same.
-                  let kr : k ≡ r = sym
-                  (law.sees key words s.views j k u o.0 there (theirs.inside k h ph e))
-                  ∙ round k h same in
+                  let k_now = law.sees key words s.views j k u o.0 there (theirs.inside k h ph e) in
+                  let kr : k ≡ r = sym k_now ∙ round k h same in
                   let it : in_hand r g u.inner.hand ≡ 1 =
-                  rw (e, kr, (same_gate k h same)) (pair_same r g) in
+                  rw (e, kr, same_gate k h same) (pair_same r g) in
                   let two = terms_le (λ (x : SeatView J). in_hand r g x.inner.hand) s.views
                   seat.id j v u ne at_id there in omega (arith, o.1.hands r g, own))) theirs)
                   (record {
@@ -320,28 +318,26 @@ module _ (lay : Layout) where
           let f = o.1.fits seat.id v at_id in let found : ℕ = state_of s.words r g in
           let after = λ (hand : Hand). changed v hand v.inner.made (learnt v.inner.known r g found)
           v.inner.looks (Claim (at r g) found) in dite (ℕ_discrete found old)
-          (λ hit. let rule = written s 0 (at r g) (stamp r IN_HAND) 1 (Has r g 0) v.inner.made v.inner.known
-          (Claim (at r g) found) ((λ b. refl), (λ k. refl), refl) o at_id (omega arith)
+          (λ hit. let rule = written s 0 (at r g) (stamp r IN_HAND) 1 (Has r g 0) v.inner.made
+          v.inner.known (Claim (at r g) found) (λ b. refl, λ k. refl, refl) o at_id (omega arith)
           (omega arith) (omega arith) (omega arith) (omega arith) (omega arith)
-          (get_or-set_same s.words (at r g) (stamp r IN_HAND) 0
-          (omega (arith, o.1.long, there)))
+          (get_or-set_same s.words (at r g) (stamp r IN_HAND) 0 (omega (arith, o.1.long, there)))
           (λ two. absurd (omega arith)) (omega (arith, ap (in_hand r g) empty, only_other))
           (omega (arith, pair_same r g, only_same)) (omega (arith, only_other))
           (λ k h apart. (apart ∙ sym (ap (in_hand k h) empty), refl))
-          ((λ l. absurd (omega arith)), (λ l. absurd (omega arith)))
+          (λ l. absurd (omega arith), λ l. absurd (omega arith))
           (λ k h phase has. cc) (λ known. known) (λ none_left. omega arith) in
           let undone : Rule (set s.words (at r g) (stamp r IN_HAND))
           (set s.views seat.id (after (Has r g 0))) =
           rw (ne_eqb found (stamp r DONE) (λ two. omega arith)) rule in
-          rw (eq-eqb found old hit)
-          (after (Has r g 0), keeps, tt, kept _ undone, (refl, here _ (finds s o at_id, inl hit, refl))))
+          let says = here _ (finds s o at_id, inl hit, refl) in
+          rw (eq-eqb found old hit) (after (Has r g 0), keeps, tt, kept _ undone, (refl, says)))
           (λ ne. let later : stamp r FREE < found = omega (arith, f.looks r g old look) in
-          let rule = loaded s.words s.views (at r g) seat.id v
-          (learnt v.inner.known r g found) v.inner.looks
-          (Claim (at r g) found) ((λ b. refl), (λ k. refl), refl) o at_id
+          let rule = loaded s.words s.views (at r g) seat.id v (learnt v.inner.known r g found)
+          v.inner.looks (Claim (at r g) found) (λ b. refl, λ k. refl, refl) o at_id
           (learns s.words v.inner.known r g f.knows) f.looks in
-          rw (ne_eqb found old ne)
-          (after v.inner.hand, keeps, tt, kept _ rule, (refl, here _ (finds s o at_id, inr later, refl)))))
+          let says = here _ (finds s o at_id, inr later, refl) in
+          rw (ne_eqb found old ne) (after v.inner.hand, keeps, tt, kept _ rule, (refl, says))))
 
       half_right : (words : List ℕ) (i n : ℕ) → i < 2 → at r g + 2 < length words
           → right job r g i n → board.IsHandRight lay gates right job words (Has r g i)
@@ -349,11 +345,10 @@ module _ (lay : Layout) where
       half_right words zero n two room is held =
           let stored = get_or-set_same words (at r g + 1) n 0 (omega arith) in
           (λ l. rw stored is, λ l. absurd (omega arith))
-      half_right words (suc zero) n two room is held = (
-        λ l. rw (get_or-set_other words (at r g + 2) (at r g + 1) n 0 (λ e. omega arith))
-            (held.0 (omega arith)),
-        λ l. rw (get_or-set_same words (at r g + 2) n 0 room) is,
-      )
+      half_right words (suc zero) n two room is held =
+          let stored = get_or-set_same words (at r g + 2) n 0 room in
+          let stays = get_or-set_other words (at r g + 2) (at r g + 1) n 0 (λ e. omega arith) in
+          (λ l. rw stays (held.0 (omega arith)), λ l. rw stored is)
       half_right words (suc (suc i)) n two room is held = absurd (omega arith)
 
       -- half i of the gate in hand is stored, and is right
@@ -363,15 +358,15 @@ module _ (lay : Layout) where
       stores_half i n two has is =
           owed (omega arith) (λ s h wide at_id small. let o = law.parts key s h in
           let f = o.1.fits seat.id v at_id in let word : ℕ = at r g + suc i in
-          let one = held s i o at_id has in let state = one.1 in let rule = written s (suc i) word n 1 (Has r g (i + 1)) v.inner.made v.inner.known
-          (Store word n) ((λ b. refl), (λ k. refl), refl) o at_id (omega arith) refl
-          (omega arith) (omega arith) (omega arith) (omega arith)
+          let one = held s i o at_id has in let state = one.1 in
+          let rule = written s (suc i) word n 1 (Has r g (i + 1)) v.inner.made v.inner.known
+          (Store word n) (λ b. refl, λ k. refl, refl) o at_id (omega arith) refl (omega arith)
+          (omega arith) (omega arith) (omega arith)
           (get_or-set_other s.words word (at r g) n 0 (λ e. omega arith) ∙ state)
-          (λ m. absurd (omega arith)) one.0
-          (omega (arith, pair_same r g, only_same)) (omega (arith, only_other))
-          (λ k h apart. (sym (ap (in_hand k h) has), refl))
-          (half_right s.words i n two (omega (arith, o.1.long, there)) is
-          (rw has at f.holding)) (λ k h ph e. cc) (λ known. known)
+          (λ m. absurd (omega arith)) one.0 (omega (arith, pair_same r g, only_same))
+          (omega (arith, only_other)) (λ k h apart. (sym (ap (in_hand k h) has), refl))
+          (half_right s.words i n two (omega (arith, o.1.long, there)) is (rw has at f.holding))
+          (λ k h ph e. cc) (λ known. known)
           (λ none_left. let gone = (f.spent none_left).0 in absurd (cc)) in
           (after_stored v r g (i + 1) word n, keeps, tt, kept _ rule, (refl, λ k h ph e. cc)))
 
@@ -381,20 +376,16 @@ module _ (lay : Layout) where
       stores_done has = owed (omega arith) (λ s h wide at_id small. let o = law.parts key s h in
           let f = o.1.fits seat.id v at_id in let now = set s.words (at r g) (stamp r DONE) in
           let two : state_of now r g ≡ stamp r DONE =
-          get_or-set_same s.words (at r g) (stamp r DONE) 0
-          (omega (arith, o.1.long, there)) in
+          get_or-set_same s.words (at r g) (stamp r DONE) 0 (omega (arith, o.1.long, there)) in
           let one = held s 2 o at_id has in let state = one.1 in let halves = rw has at f.holding in
           let half : (j : ℕ) → get_or now (at r g + suc j) 0 ≡ get_or s.words (at r g + suc j) 0 =
-          λ j. get_or-set_other s.words (at r g) (at r g + suc j) (stamp r DONE) 0
-          (λ e. omega arith) in
+          λ j. get_or-set_other s.words (at r g) _ (stamp r DONE) 0 (λ e. omega arith) in
           let adds = λ (k h : ℕ). total-append (is_pair k h) v.inner.made ((r, g) ∷ []) in
           let rule = written s 0 (at r g) (stamp r DONE) 2 Empty (v.inner.made ++ (r, g) ∷ [])
-          ((r, g) ∷ v.inner.known) (Store (at r g) (stamp r DONE))
-          ((λ b. refl), (λ k. refl), refl) o at_id (omega arith)
-          (omega arith) (omega arith) (omega arith) (omega arith) (omega arith) two
-          (λ _. rw (half 0, half 1) halves)
-          one.0
-          (omega (arith, only_other)) (omega (arith, adds r g, pair_same r g, only_same))
+          ((r, g) ∷ v.inner.known) (Store (at r g) (stamp r DONE)) (λ b. refl, λ k. refl, refl)
+          o at_id (omega arith) (omega arith) (omega arith) (omega arith) (omega arith) (omega arith)
+          two (λ _. rw (half 0, half 1) halves) one.0 (omega (arith, only_other))
+          (omega (arith, adds r g, pair_same r g, only_same))
           (λ k h apart. (sym (ap (in_hand k h) has ∙ apart), omega (arith, adds k h)))
           tt (λ k h phase e. absurd (cc)) (knows_too now v.inner.known r g (omega arith))
           (λ none_left. let gone = (f.spent none_left).0 in absurd (cc)) in
@@ -406,7 +397,7 @@ module _ (lay : Layout) where
     learns_once slots id me are s h wide at_id small = let o = law.parts key s h in
         let f = o.1.fits id me.0 at_id in let found : ℕ = get_or s.words 0 0 in
         let rule = loaded s.words s.views 0 id me.0 me.0.inner.known me.0.inner.looks (Load 0 found)
-        ((λ b. refl), (λ k. refl), refl) o at_id f.knows f.looks in
+        (λ b. refl, λ k. refl, refl) o at_id f.knows f.looks in
         let alone = sees_all s.words s.views id me.0 o at_id are in
         let says : me.0.seats ≡ me.0.all → IsOnce me.0.inner.made =
         λ whole r g. omega (arith, (alone whole r g).1, o.1.once r g) in
